@@ -29,9 +29,9 @@ replaced-unknown xs zero x none = refl
 replaced-unknown xs (suc n) x none = sym (set-past xs n x (unknown-past xs n none))
 
 -- the record of number `at + 1`
-pub numbered-known : {T : Type 0} (xs : List T) (at n : ℕ) (d : T) → at + 1 ≡ n → at < length xs → Some (getD xs at d) ≡ numbered xs n
-numbered-known xs at zero d e h = absurd (omega arith)
-numbered-known xs at (suc n) d e h = let same : at ≡ n = omega arith in rw same (sym (nth-getD xs n d (omega arith)))
+pub numbered-known : {T : Type 0} (xs : List T) (at n : ℕ) (x : T) → at + 1 ≡ n → at < length xs → x ≡ getD xs at x → Some x ≡ numbered xs n
+numbered-known xs at zero x e h is = absurd (omega arith)
+numbered-known xs at (suc n) x e h is = let same : at ≡ n = omega arith in ap Some (rw same at is) ∙ sym (nth-getD xs n x (omega arith))
 
 pub replaced-known : {T : Type 0} (xs : List T) (at n : ℕ) (x : T) → at + 1 ≡ n → set xs at x ≡ replaced xs n x
 replaced-known xs at zero x e = absurd (omega arith)
@@ -49,8 +49,7 @@ module _ {T : Type 0} (places : List T) (count : ℕ) (fits : count ≤ length p
   module _ (at n : ℕ) (is : at + 1 ≡ n) (within : at < count) where
     pub listed-known : (x : T) → x ≡ getD places at x → Some x ≡ numbered (take count places) n
     listed-known x e =
-        let t : getD (take count places) at x ≡ getD places at x = getD-take count places at x within in
-        ap Some (e ∙ sym t) ∙ numbered-known (take count places) at n x is (omega (arith, listed-length))
+        numbered-known (take count places) at n x is (omega (arith, listed-length)) (e ∙ sym (getD-take count places at x within))
 
     module _ (x : T) (after : List T) (e : after ≡ set places at x) where
       pub replaced-fits : count ≤ length after
@@ -63,18 +62,18 @@ module _ {T : Type 0} (places : List T) (count : ℕ) (fits : count ≤ length p
       replaced-unused = rw e (drop-set-lt count places at x within)
 
   -- one more record, where a place is unused
-  module _ (at : ℕ) (is : at ≡ count) (room : at < length places) (x : T) (after : List T) (e : after ≡ set places at x) where
-    pub entered-fits : at + 1 ≤ length after
+  module _ (at number : ℕ) (is : at ≡ count) (room : at < length places) (next : number ≡ at + 1) (x : T) (after : List T) (e : after ≡ set places at x) where
+    pub entered-fits : number ≤ length after
     entered-fits = rw e (simp length-set (omega arith))
 
-    pub entered-number : at + 1 ≡ length (take count places) + 1
+    pub entered-number : number ≡ length (take count places) + 1
     entered-number = omega (arith, listed-length)
 
-    pub entered-listed : take (at + 1) after ≡ take count places ++ x ∷ []
-    entered-listed = rw (e, ← is) (take-more-set places at x room)
+    pub entered-listed : take number after ≡ take count places ++ x ∷ []
+    entered-listed = rw (next, e, ← is) (take-more-set places at x room)
 
-    pub entered-unused : drop (at + 1) after ≡ drop 1 (drop count places)
-    entered-unused = rw (e, ← is) (drop-set-lt (at + 1) places at x (omega arith) ∙ sym (drop-drop 1 at places))
+    pub entered-unused : drop number after ≡ drop 1 (drop count places)
+    entered-unused = rw (next, e, ← is) (drop-set-lt (at + 1) places at x (omega arith) ∙ sym (drop-drop 1 at places))
 
   pub none-unused : drop count places ≡ [] → count < length places → ⊥
   none-unused e room = omega (arith, length-drop count places, ap length e)

@@ -22,15 +22,19 @@ abbrev pub absent-or-between : ℕ → ℕ → Option ℕ → Bool
 absent-or-between low high None = true
 absent-or-between low high (Some n) = between low high n
 
--- a price, limit or bound: at most a million from nought
-abbrev pub price-in-range : ℤ → Bool
-price-in-range p = leZ (negℤ (pos 1000000)) p && leZ p (pos 1000000)
+-- at most so far from nought, on either side
+abbrev pub within : ℕ → ℤ → Bool
+within most p = leZ (negℤ (pos most)) p && leZ p (pos most)
 
--- lower bound ≤ upper bound
+-- a price, limit or bound
+abbrev pub price-in-range : ℤ → Bool
+price-in-range p = within 1000000 p
+
+-- both in range, and lower bound ≤ upper bound
 abbrev pub bounds-in-order : ℤ → ℤ → Bool
 bounds-in-order lower upper = price-in-range lower && (price-in-range upper && leZ lower upper)
 
--- lower limit ≤ settlement price ≤ upper limit
+-- all three in range, and lower limit ≤ settlement price ≤ upper limit
 abbrev pub prices-in-order : ℤ → ℤ → ℤ → Bool
 prices-in-order lower settlement upper =
     bounds-in-order lower upper && (price-in-range settlement && (leZ lower settlement && leZ settlement upper))
@@ -52,8 +56,8 @@ abbrev pub account-in-range : AccountTerms → Bool
 account-in-range t = between 1 65535 (t .participant) && between 1 65535 (t .taxpayer)
 
 -- each field of a ticket, taken alone
-abbrev pub ticket-in-range : Ticket → Bool
-ticket-in-range t =
+abbrev pub ticket-fields-in-range : Ticket → Bool
+ticket-fields-in-range t =
     isSome (direction-of (t .direction)) &&
     (isSome (type-of (t .«order_type»)) &&
     (between 1 10000 (t .size) &&

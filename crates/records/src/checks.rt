@@ -1,5 +1,5 @@
 ghost use mathlib.Core.Path.{_≡_};
-ghost use Rattle.records.specs.Ranges.{between, absent-or-between, price-in-range, prices-in-order, bounds-in-order, contract-in-range, instrument-in-range, account-in-range, ticket-in-range};
+ghost use Rattle.records.specs.Ranges.{between, absent-or-between, price-in-range, prices-in-order, bounds-in-order, contract-in-range, instrument-in-range, account-in-range, ticket-fields-in-range};
 use crate::codes::Direction;
 use crate::codes::OrderType;
 use crate::terms::AccountTerms;
@@ -43,6 +43,7 @@ fn is_price(p: i32) -> bool
     -PRICE_RANGE <= p && p <= PRICE_RANGE
 }
 
+// Whether two bounds lie in their ranges, the lower not above the upper.
 fn are_bounds_in_order(lower: i32, upper: i32) -> bool
     ensures { λ r. ⌜ r ≡ bounds-in-order lower upper ⌝ }
 {
@@ -96,8 +97,8 @@ impl AccountTerms {
 impl Ticket {
     // Whether each field, taken alone, lies in its range. Which fields may stand together, and whether account and
     // instrument are known, is not asked here.
-    pub fn is_in_range(&self) -> bool
-        ensures { λ r. ⌜ r ≡ ticket-in-range (now (self .entry)) ⌝ }
+    pub fn fields_in_range(&self) -> bool
+        ensures { λ r. ⌜ r ≡ ticket-fields-in-range (now (self .entry)) ⌝ }
     {
         Direction::from_code(self.direction).is_some()
             && OrderType::from_code(self.order_type).is_some()

@@ -5,6 +5,9 @@ ghost use lib.ListN.{length, getD, set};
 ghost use Rattle.std.specs.Options.{Cases};
 ghost use Rattle.std.specs.declared.option.Option.the-variants.{None};
 ghost use Rattle.records.specs.Registers.{Fits, listed, unused, numbered, replaced, Entered};
+use crate::numbering::number_of;
+use crate::numbering::place_of;
+use crate::numbering::record_of;
 use crate::rows::OrderRow;
 use crate::rows::Trade;
 
@@ -20,28 +23,11 @@ pub type OrderRegister<'a> = Register<'a, OrderRow>;
 
 pub type TradeRegister<'a> = Register<'a, Trade>;
 
-// The place of the record of this number, if there is one.
-fn place_of(number: usize, count: usize) -> Option<usize>
-    ensures { λ r. ⌜ Cases r ((at : ℕ) → at + 1 ≡ number → at < count → ⊥) (λ at. (at + 1 ≡ number) × (at < count)) ⌝ }
-{
-    if number == 0 || number > count {
-        return None;
-    }
-    Some(number - 1)
-}
-
 // The first place behind the records, if there is one.
 fn free_place(count: usize, places: usize) -> Option<usize>
     ensures { λ r. ⌜ Cases r (places ≤ count) (λ at. (at ≡ count) × (at < places)) ⌝ }
 {
     if count < places { Some(count) } else { None }
-}
-
-fn read_at<T: Copy>(places: &[T], at: usize) -> T
-    requires { ⌜ at < length (now places) ⌝ }
-    ensures { λ r. ⌜ r ≡ getD (now (places .entry)) at r ⌝ }
-{
-    places[at]
 }
 
 fn write_at<T: Copy>(places: &mut [T], at: usize, new: T)
@@ -57,7 +43,7 @@ fn replace_at<T: Copy>(places: &mut [T], at: usize, new: T) -> T
     ensures after { λ _. ⌜ now (places .exit) ≡ set (now (places .entry)) at new ⌝ }
 {
     let old = places[at];
-    places[at] = new;
+    write_at(places, at, new);
     old
 }
 
@@ -86,8 +72,7 @@ impl<T: Copy> Register<'_, T> {
         requires { ⌜ Fits (now self) ⌝ }
         ensures { λ r. ⌜ r ≡ numbered (listed (now (self .entry))) number ⌝ }
     {
-        let at = place_of(number, self.count)?;
-        Some(read_at(self.places, at))
+        record_of(&self.places[0..self.count], number)
     }
 
     // Enters a record in the first unused place and answers its number; where no place is unused, nothing changes.
@@ -99,8 +84,9 @@ impl<T: Copy> Register<'_, T> {
     {
         let at = free_place(self.count, self.places.len())?;
         write_at(self.places, at, new);
-        self.count = at + 1;
-        Some(at + 1)
+        let number = number_of(at);
+        self.count = number;
+        Some(number)
     }
 
     // Puts a record in the place of the one that has this number, and answers that one; at an unknown number nothing changes.

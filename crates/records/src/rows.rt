@@ -19,8 +19,8 @@ pub struct OrderRow {
 #[derive(Clone, Copy)]
 pub struct Trade {
     pub contract: u32,
-    pub buyer: u32,
-    pub seller: u32,
+    pub buying_order: u32,
+    pub selling_order: u32,
     pub quantity: u32,
     pub price: i32,
 }

@@ -10,7 +10,7 @@ const TICKET: Ticket = Ticket {
     account: 1,
     instrument: 2,
     direction: 2,
-    order_type: 3,
+    order_type: 0,
     price: -12,
     size: 40,
     addressee: Some(12),
@@ -33,46 +33,68 @@ fn a_sound_row_makes_its_order() -> Result<(), Fail> {
         return Err(Fail::new("no order"));
     };
     check(matches!(order.direction, Direction::Sell))?;
-    check(matches!(order.order_type, OrderType::Ioc))?;
+    check(matches!(order.order_type, OrderType::Limit))?;
     check(matches!(order.ending, Ending::NotEnded))?;
     check_eq(order.ticket.price, -12)?;
     check_eq(order.ticket.reference, Some(9))?;
     check_eq(order.size, 40)?;
     check_eq(order.filled, 15)?;
     check_eq(order.remaining, 25)?;
-    check_eq(order.withdrawn, 0)?;
-    check(order.is_active())?;
-    check(ROW.is_active())
+    check_eq(order.withdrawn, 0)
+}
+
+#[test]
+fn an_order_is_active_while_something_remains() -> Result<(), Fail> {
+    let filled = OrderRow {
+        filled: 40,
+        remaining: 0,
+        ending: Ending::Filled,
+        ..ROW
+    };
+    let Some(order) = Order::from_row(filled) else {
+        return Err(Fail::new("no order"));
+    };
+    check(!filled.is_active())?;
+    check(!order.is_active())?;
+    let one = OrderRow {
+        filled: 39,
+        remaining: 1,
+        ..ROW
+    };
+    let Some(order) = Order::from_row(one) else {
+        return Err(Fail::new("no order"));
+    };
+    check(one.is_active())?;
+    check(order.is_active())
+}
+
+// Whether a row with these quantities, its ticket of the same size, makes an order.
+fn sums(size: u32, filled: u32, remaining: u32) -> bool {
+    let ticket = Ticket { size, ..TICKET };
+    Order::from_row(OrderRow {
+        ticket,
+        size,
+        filled,
+        remaining,
+        ..ROW
+    }).is_some()
 }
 
 #[test]
 fn quantities_that_do_not_add_up_make_none() -> Result<(), Fail> {
-    check(Order::from_row(OrderRow { filled: 14, ..ROW }).is_none())?;
-    check(Order::from_row(OrderRow { filled: 16, ..ROW }).is_none())?;
+    check(sums(40, 15, 25))?;
+    check(!sums(40, 14, 25))?;
+    check(!sums(40, 16, 25))?;
+    // 2^32 - 25 and 25 come to nought in 32 bits
+    check(!sums(0, u32::MAX - 24, 25))?;
+    // but the largest size that a row can hold is one
+    check(sums(u32::MAX, u32::MAX - 25, 25))?;
+    // the size is the ticket's
     check(Order::from_row(OrderRow {
         size: 41,
         filled: 16,
         ..ROW
-    }).is_none())?;
-    // 2^32 - 25 and 25 come to nought in 32 bits
-    let ticket = Ticket { size: 0, ..TICKET };
-    check(Order::from_row(OrderRow {
-        ticket,
-        size: 0,
-        filled: u32::MAX - 24,
-        ..ROW
-    }).is_none())?;
-    // but the largest size that a row can hold is one
-    let ticket = Ticket {
-        size: u32::MAX,
-        ..TICKET
-    };
-    check(Order::from_row(OrderRow {
-        ticket,
-        size: u32::MAX,
-        filled: u32::MAX - 25,
-        ..ROW
-    }).is_some())
+    }).is_none())
 }
 
 #[test]

@@ -10,7 +10,7 @@ use std::error::AnyError;
 
 // A calendar spread struck between two orders. The spread is the distant price less the nearby price.
 #[derive(Drop)]
-struct SpreadHit {
+struct SpreadMatch {
     nearby: u32,
     distant: u32,
     nearby_settlement: i32,
@@ -21,35 +21,35 @@ struct SpreadHit {
 }
 
 // The nearby contract passes from the spread's buyer to its seller, at its settlement price.
-fn nearby_trade(hit: &SpreadHit) -> Trade
-    ensures contract { λ r. ⌜ r .contract ≡ now (hit .entry) .nearby ⌝ }
-    ensures sold { λ r. ⌜ r .seller ≡ now (hit .entry) .«spread_buyer» ⌝ ∗ ⌜ r .buyer ≡ now (hit .entry) .«spread_seller» ⌝ }
-    ensures quantity { λ r. ⌜ r .quantity ≡ now (hit .entry) .quantity ⌝ }
-    ensures price { λ r. ⌜ r .price ≡ now (hit .entry) .«nearby_settlement» ⌝ }
+fn nearby_trade(struck: &SpreadMatch) -> Trade
+    ensures contract { λ r. ⌜ r .contract ≡ now (struck .entry) .nearby ⌝ }
+    ensures sold { λ r. ⌜ r .«selling_order» ≡ now (struck .entry) .«spread_buyer» ⌝ ∗ ⌜ r .«buying_order» ≡ now (struck .entry) .«spread_seller» ⌝ }
+    ensures quantity { λ r. ⌜ r .quantity ≡ now (struck .entry) .quantity ⌝ }
+    ensures price { λ r. ⌜ r .price ≡ now (struck .entry) .«nearby_settlement» ⌝ }
 {
     Trade {
-        contract: hit.nearby,
-        buyer: hit.spread_seller,
-        seller: hit.spread_buyer,
-        quantity: hit.quantity,
-        price: hit.nearby_settlement,
+        contract: struck.nearby,
+        buying_order: struck.spread_seller,
+        selling_order: struck.spread_buyer,
+        quantity: struck.quantity,
+        price: struck.nearby_settlement,
     }
 }
 
 // The distant contract passes from the spread's seller to its buyer, at the nearby price plus the spread.
-fn distant_trade(hit: &SpreadHit) -> Trade
-    requires { ⌜ price-in-range (now hit .«nearby_settlement») ≡ true ⌝ ∗ ⌜ price-in-range (now hit .spread) ≡ true ⌝ }
-    ensures contract { λ r. ⌜ r .contract ≡ now (hit .entry) .distant ⌝ }
-    ensures bought { λ r. ⌜ r .buyer ≡ now (hit .entry) .«spread_buyer» ⌝ ∗ ⌜ r .seller ≡ now (hit .entry) .«spread_seller» ⌝ }
-    ensures quantity { λ r. ⌜ r .quantity ≡ now (hit .entry) .quantity ⌝ }
-    ensures price { λ r. ⌜ r .price ≡ now (hit .entry) .«nearby_settlement» +ℤ now (hit .entry) .spread ⌝ }
+fn distant_trade(struck: &SpreadMatch) -> Trade
+    requires { ⌜ price-in-range (now struck .«nearby_settlement») ≡ true ⌝ ∗ ⌜ price-in-range (now struck .spread) ≡ true ⌝ }
+    ensures contract { λ r. ⌜ r .contract ≡ now (struck .entry) .distant ⌝ }
+    ensures bought { λ r. ⌜ r .«buying_order» ≡ now (struck .entry) .«spread_buyer» ⌝ ∗ ⌜ r .«selling_order» ≡ now (struck .entry) .«spread_seller» ⌝ }
+    ensures quantity { λ r. ⌜ r .quantity ≡ now (struck .entry) .quantity ⌝ }
+    ensures price { λ r. ⌜ r .price ≡ now (struck .entry) .«nearby_settlement» +ℤ now (struck .entry) .spread ⌝ }
 {
     Trade {
-        contract: hit.distant,
-        buyer: hit.spread_buyer,
-        seller: hit.spread_seller,
-        quantity: hit.quantity,
-        price: hit.nearby_settlement + hit.spread,
+        contract: struck.distant,
+        buying_order: struck.spread_buyer,
+        selling_order: struck.spread_seller,
+        quantity: struck.quantity,
+        price: struck.nearby_settlement + struck.spread,
     }
 }
 
@@ -57,8 +57,8 @@ fn show(rt: &LibcRuntime, what: &str, number: usize, t: &Trade) -> Result<(), An
     let contract = t.contract;
     let quantity = t.quantity;
     let price = t.price;
-    let buyer = t.buyer;
-    let seller = t.seller;
+    let buyer = t.buying_order;
+    let seller = t.selling_order;
     println!(
         rt,
         "{what} {number}: contract {contract} quantity {quantity} price {price} buyer order {buyer} seller order {seller}"
@@ -91,7 +91,7 @@ fn read_back(rt: &LibcRuntime, trades: &TradeRegister) -> Result<(), AnyError>
 }
 
 fn run(rt: &LibcRuntime) -> Result<(), AnyError> {
-    let hit = SpreadHit {
+    let struck = SpreadMatch {
         nearby: 1,
         distant: 2,
         nearby_settlement: 1_000,
@@ -110,14 +110,14 @@ fn run(rt: &LibcRuntime) -> Result<(), AnyError> {
     )?;
     let mut places = [Trade {
         contract: 0,
-        buyer: 0,
-        seller: 0,
+        buying_order: 0,
+        selling_order: 0,
         quantity: 0,
         price: 0,
     }; 2];
     let mut trades = Register::begin(&mut places);
-    enter(rt, &mut trades, nearby_trade(&hit))?;
-    enter(rt, &mut trades, distant_trade(&hit))?;
+    enter(rt, &mut trades, nearby_trade(&struck))?;
+    enter(rt, &mut trades, distant_trade(&struck))?;
     read_back(rt, &trades)
 }
 

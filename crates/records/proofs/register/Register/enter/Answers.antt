@@ -17,14 +17,15 @@ returns g c =
     let places = c .args .self .now .places .now in
     let count = c .args .self .now .count in
     let at = c .in-Continue-at .at in
+    let number = c .number-of-number .result in
     let place = c .in-Continue-at .ensures tt in
     let after = c .write-at .last .places in
     record {
-      fits = entered-fits places count (c .pre) at (place .0) (place .1) (c .args .new) after (c .write-at .ensures);
+      fits = entered-fits places count (c .pre) at number (place .0) (place .1) (c .number-of-number .ensures) (c .args .new) after (c .write-at .ensures);
       entered = λ _. record {
-        number = ap Some (entered-number places count (c .pre) at (place .0) (place .1) (c .args .new) after (c .write-at .ensures));
-        more = entered-listed places count (c .pre) at (place .0) (place .1) (c .args .new) after (c .write-at .ensures);
-        rest = entered-unused places count (c .pre) at (place .0) (place .1) (c .args .new) after (c .write-at .ensures);
+        number = ap Some (entered-number places count (c .pre) at number (place .0) (place .1) (c .number-of-number .ensures) (c .args .new) after (c .write-at .ensures));
+        more = entered-listed places count (c .pre) at number (place .0) (place .1) (c .number-of-number .ensures) (c .args .new) after (c .write-at .ensures);
+        rest = entered-unused places count (c .pre) at number (place .0) (place .1) (c .number-of-number .ensures) (c .args .new) after (c .write-at .ensures);
       };
       full = λ e. absurd (none-unused places count (c .pre) e (omega (arith, place .0, place .1)));
     }
