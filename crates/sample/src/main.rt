@@ -1,55 +1,92 @@
-ghost use mathlib.Core.Path.{_≡_};
-ghost use lib.IntN.{_+ℤ_};
 ghost use mathlib.Core.Bool.{true};
+ghost use mathlib.Core.Path.{_≡_};
+ghost use Rattle.std.specs.Options.{isSome};
 ghost use Rattle.records.specs.Ranges.{price-in-range};
 ghost use Rattle.records.specs.Registers.{Fits};
+ghost use Rattle.rulebook.specs.Legs.{Each, map-legs, leg-at};
+ghost use Rattle.rulebook.specs.Reading.{settlement-of};
+ghost use Rattle.sample.specs.Struck.{leg-trade as trade-of};
+use records::codes::Direction;
+use records::contract::Contract;
+use records::instrument::Instrument;
 use records::register::Register;
 use records::register::TradeRegister;
 use records::rows::Trade;
+use records::terms::ContractTerms;
+use records::terms::InstrumentTerms;
+use rulebook::asking::trade_price;
+use rulebook::futures::FuturesInstrumentRule;
+use rulebook::futures::FuturesRule;
+use rulebook::joined::ExchangeRules;
+use rulebook::joined::Joined;
+use rulebook::joined::JoinedInstrumentRule;
+use rulebook::legs::Leg;
+use rulebook::legs::LegPlace;
+use rulebook::legs::Legs;
+use rulebook::reading::leg_terms;
+use rulebook::rule::InstrumentRule;
+use rulebook::spread::SpreadInstrumentRule;
+use rulebook::spread::SpreadRule;
 use std::error::AnyError;
 
-// A calendar spread struck between two orders. The spread is the distant price less the nearby price.
-#[derive(Drop)]
-struct SpreadMatch {
-    nearby: u32,
-    distant: u32,
-    nearby_settlement: i32,
-    spread: i32,
+// Two orders that met: who bought and who sold the instrument, how much, and at which price.
+#[derive(Clone, Copy)]
+struct Struck {
+    buyer: u32,
+    seller: u32,
     quantity: u32,
-    spread_buyer: u32,
-    spread_seller: u32,
+    price: i32,
 }
 
-// The nearby contract passes from the spread's buyer to its seller, at its settlement price.
-fn nearby_trade(struck: &SpreadMatch) -> Trade
-    ensures contract { λ r. ⌜ r .contract ≡ now (struck .entry) .nearby ⌝ }
-    ensures sold { λ r. ⌜ r .«selling_order» ≡ now (struck .entry) .«spread_buyer» ⌝ ∗ ⌜ r .«buying_order» ≡ now (struck .entry) .«spread_seller» ⌝ }
-    ensures quantity { λ r. ⌜ r .quantity ≡ now (struck .entry) .quantity ⌝ }
-    ensures price { λ r. ⌜ r .price ≡ now (struck .entry) .«nearby_settlement» ⌝ }
+// The trade of one leg: the order that takes the leg's contract is the buying one.
+fn leg_trade(struck: &Struck, leg: &Leg, price: i32) -> Trade
+    ensures { λ r. ⌜ r ≡ trade-of (now (struck .entry)) (now (leg .entry)) price ⌝ }
 {
-    Trade {
-        contract: struck.nearby,
-        buying_order: struck.spread_seller,
-        selling_order: struck.spread_buyer,
-        quantity: struck.quantity,
-        price: struck.nearby_settlement,
+    match leg.direction_in(Direction::Buy) {
+        Direction::Buy => Trade {
+            contract: leg.contract,
+            buying_order: struck.buyer,
+            selling_order: struck.seller,
+            quantity: struck.quantity,
+            price,
+        },
+        Direction::Sell => Trade {
+            contract: leg.contract,
+            buying_order: struck.seller,
+            selling_order: struck.buyer,
+            quantity: struck.quantity,
+            price,
+        },
     }
 }
 
-// The distant contract passes from the spread's seller to its buyer, at the nearby price plus the spread.
-fn distant_trade(struck: &SpreadMatch) -> Trade
-    requires { ⌜ price-in-range (now struck .«nearby_settlement») ≡ true ⌝ ∗ ⌜ price-in-range (now struck .spread) ≡ true ⌝ }
-    ensures contract { λ r. ⌜ r .contract ≡ now (struck .entry) .distant ⌝ }
-    ensures bought { λ r. ⌜ r .«buying_order» ≡ now (struck .entry) .«spread_buyer» ⌝ ∗ ⌜ r .«selling_order» ≡ now (struck .entry) .«spread_seller» ⌝ }
-    ensures quantity { λ r. ⌜ r .quantity ≡ now (struck .entry) .quantity ⌝ }
-    ensures price { λ r. ⌜ r .price ≡ now (struck .entry) .«nearby_settlement» +ℤ now (struck .entry) .spread ⌝ }
+// One trade for each leg, in the rule's order, entered in the register.
+fn strike<R: InstrumentRule>(
+    rt: &LibcRuntime,
+    rule: &R,
+    instrument: &Instrument,
+    contracts: &[Contract],
+    struck: &Struck,
+    trades: &mut TradeRegister,
+) -> Result<(), AnyError>
+    requires fits { ⌜ Fits (now trades) ⌝ }
+    requires price { ⌜ price-in-range (now struck .price) ≡ true ⌝ }
+    ensures { λ _. ⌜ Fits (now (trades .exit)) ⌝ }
 {
-    Trade {
-        contract: struck.distant,
-        buying_order: struck.spread_buyer,
-        selling_order: struck.spread_seller,
-        quantity: struck.quantity,
-        price: struck.nearby_settlement + struck.spread,
+    let legs = rule.legs(instrument);
+    let terms = leg_terms(contracts, &legs);
+    match legs {
+        Legs::NoLeg => Err("the instrument has no leg".into()),
+        Legs::One(a) => {
+            let first = trade_price(rule, instrument, LegPlace::First, struck.price, &terms);
+            enter(rt, trades, leg_trade(struck, &a, first))
+        }
+        Legs::Two(a, b) => {
+            let first = trade_price(rule, instrument, LegPlace::First, struck.price, &terms);
+            let second = trade_price(rule, instrument, LegPlace::Second, struck.price, &terms);
+            enter(rt, trades, leg_trade(struck, &a, first))?;
+            enter(rt, trades, leg_trade(struck, &b, second))
+        }
     }
 }
 
@@ -90,16 +127,42 @@ fn read_back(rt: &LibcRuntime, trades: &TradeRegister) -> Result<(), AnyError>
     Ok(())
 }
 
+fn contract(last_day: u32, lower: i32, settlement: i32, upper: i32) -> Option<Contract> {
+    Contract::new(ContractTerms {
+        underlying: 7,
+        last_day,
+        lower,
+        settlement,
+        upper,
+        w: 3,
+        r: 2,
+    })
+}
+
 fn run(rt: &LibcRuntime) -> Result<(), AnyError> {
-    let struck = SpreadMatch {
-        nearby: 1,
-        distant: 2,
-        nearby_settlement: 1_000,
-        spread: 12,
-        quantity: 15,
-        spread_buyer: 1,
-        spread_seller: 2,
+    let Some(nearby) = contract(90, 900, 1_000, 1_100) else {
+        return Err("the nearby contract is out of range".into());
     };
+    let Some(distant) = contract(180, 950, 1_040, 1_200) else {
+        return Err("the distant contract is out of range".into());
+    };
+    let contracts = [nearby, distant];
+    let rules: ExchangeRules = Joined {
+        first: FuturesRule,
+        second: SpreadRule,
+    };
+    let Some(spread) = Instrument::new(InstrumentTerms {
+        kind: 2,
+        first: 1,
+        second: Some(2),
+        lower: -50,
+        upper: 100,
+    }) else {
+        return Err("the instrument is out of range".into());
+    };
+    if !rules.admits(&spread, &contracts) {
+        return Err("the spread is not admitted".into());
+    }
     println!(
         rt,
         "order 1 buys and order 2 sells 15 spreads of contracts 1 and 2 at 12; contract 1 is settled at 1000"
@@ -116,8 +179,13 @@ fn run(rt: &LibcRuntime) -> Result<(), AnyError> {
         price: 0,
     }; 2];
     let mut trades = Register::begin(&mut places);
-    enter(rt, &mut trades, nearby_trade(&struck))?;
-    enter(rt, &mut trades, distant_trade(&struck))?;
+    let struck = Struck {
+        buyer: 1,
+        seller: 2,
+        quantity: 15,
+        price: 12,
+    };
+    strike(rt, &rules, &spread, &contracts, &struck, &mut trades)?;
     read_back(rt, &trades)
 }
 

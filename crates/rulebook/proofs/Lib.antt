@@ -1,0 +1,6 @@
+pub mod Casts
+pub mod FuturesLaws
+pub mod JoinedLaws
+pub mod Readings
+pub mod SpreadLaws
+pub mod Tables
