@@ -37,6 +37,32 @@ pub replaced-known : {T : Type 0} (xs : List T) (at n : ℕ) (x : T) → at + 1 
 replaced-known xs at zero x e = absurd (omega arith)
 replaced-known xs at (suc n) x e = let same : at ≡ n = omega arith in rw same refl
 
+nth-set-same : {T : Type 0} (xs : List T) (i : ℕ) (x : T) → i < length xs → nth (set xs i x) i ≡ Some x
+nth-set-same [] i x h = absurd (omega arith)
+nth-set-same (y ∷ ys) zero x h = refl
+nth-set-same (y ∷ ys) (suc i) x h = nth-set-same ys i x (omega arith)
+
+nth-set-other : {T : Type 0} (xs : List T) (i k : ℕ) (x : T) → (k ≡ i → ⊥) → nth (set xs i x) k ≡ nth xs k
+nth-set-other [] i k x ne = refl
+nth-set-other (y ∷ ys) zero zero x ne = absurd (ne refl)
+nth-set-other (y ∷ ys) zero (suc k) x ne = refl
+nth-set-other (y ∷ ys) (suc i) zero x ne = refl
+nth-set-other (y ∷ ys) (suc i) (suc k) x ne = nth-set-other ys i k x (λ e. ne (ap suc e))
+
+-- reading back after a replacement
+pub numbered-replaced-same : {T : Type 0} (xs : List T) (n : ℕ) (x : T) → 0 < n → n ≤ length xs → numbered (replaced xs n x) n ≡ Some x
+numbered-replaced-same xs zero x l h = absurd (omega arith)
+numbered-replaced-same xs (suc n) x l h = nth-set-same xs n x h
+
+pub numbered-replaced-other : {T : Type 0} (xs : List T) (n k : ℕ) (x : T) → (k ≡ n → ⊥) → numbered (replaced xs n x) k ≡ numbered xs k
+numbered-replaced-other xs zero k x ne = refl
+numbered-replaced-other xs (suc n) zero x ne = refl
+numbered-replaced-other xs (suc n) (suc k) x ne = nth-set-other xs n k x (λ e. ne (ap suc e))
+
+pub length-replaced : {T : Type 0} (xs : List T) (n : ℕ) (x : T) → length (replaced xs n x) ≡ length xs
+length-replaced xs zero x = refl
+length-replaced xs (suc n) x = length-set xs n x
+
 -- the first `count` places hold the records
 module _ {T : Type 0} (places : List T) (count : ℕ) (fits : count ≤ length places) where
   pub listed-length : length (take count places) ≡ count

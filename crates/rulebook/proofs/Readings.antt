@@ -1,5 +1,5 @@
--- The terms that are read of listed contracts are in range, and noughts are.
-use mathlib.Core.Bool.{true, _&&_}
+-- The prices of the contracts that are read are in range, and noughts are.
+use mathlib.Core.Bool.{true}
 use mathlib.Core.List.{List}
 use mathlib.Core.Path.{_≡_, refl}
 use Prim.Native.Nat.{ℕ}
@@ -7,7 +7,7 @@ use Rattle.std.proofs.shelf.Tests.{and-parts}
 use Rattle.std.specs.Options.{mapped, valueOr}
 use Rattle.std.specs.declared.option.Option.{Option}
 use Rattle.std.specs.declared.option.Option.the-variants.{Some, None}
-use Rattle.records.specs.Ranges.{between, bounds-in-order, prices-in-order, price-in-range, contract-in-range}
+use Rattle.records.specs.Ranges.{between, bounds-in-order, prices-in-order, price-in-range}
 use Rattle.records.specs.Registers.{numbered}
 use Rattle.records.specs.declared.contract.Contract.{Contract}
 use Rattle.records.specs.declared.terms.ContractTerms.{ContractTerms}
@@ -18,7 +18,7 @@ use Rattle.rulebook.specs.declared.legs.Leg.{Leg}
 use Rattle.rulebook.specs.declared.legs.Legs.{Legs}
 use Rattle.rulebook.specs.declared.legs.Legs.the-variants.{NoLeg, One, Two}
 
--- what is said of the prices of a contract's terms
+-- settlement price and limits are in range
 pub record Prices (t : ContractTerms) : Type 0 where
   pub settlement : price-in-range (settlement-of t) ≡ true
   pub limits : Bounds-in-range (limits-of t)
@@ -39,16 +39,9 @@ read-prices : (o : Option Contract) → Prices (valueOr (mapped (λ c. c .terms)
 read-prices None = record { settlement = refl; limits = (refl, refl) }
 read-prices (Some c) = contract-prices c
 
-module _ (contracts : List Contract) where
-  prices-at : (n : ℕ) → Prices (terms-at contracts n)
-  prices-at n = read-prices (numbered contracts n)
-
-  pub settlements-in-range : (legs : Legs Leg) → Each (λ s. price-in-range s ≡ true) (map-legs settlement-of (leg-terms contracts legs))
-  settlements-in-range NoLeg = tt
-  settlements-in-range (One a) = prices-at (a .contract) .settlement
-  settlements-in-range (Two a b) = (prices-at (a .contract) .settlement, prices-at (b .contract) .settlement)
-
-  pub limits-in-range : (legs : Legs Leg) → Each Bounds-in-range (map-legs limits-of (leg-terms contracts legs))
-  limits-in-range NoLeg = tt
-  limits-in-range (One a) = prices-at (a .contract) .limits
-  limits-in-range (Two a b) = (prices-at (a .contract) .limits, prices-at (b .contract) .limits)
+-- what follows from that holds for each leg
+pub each-read : {T : Type 0} (f : ContractTerms → T) (P : T → Type 0) → ((t : ContractTerms) → Prices t → P (f t))
+    → (contracts : List Contract) (legs : Legs Leg) → Each P (map-legs f (leg-terms contracts legs))
+each-read f P h contracts NoLeg = tt
+each-read f P h contracts (One a) = h _ (read-prices (numbered contracts (a .contract)))
+each-read f P h contracts (Two a b) = (h _ (read-prices (numbered contracts (a .contract))), h _ (read-prices (numbered contracts (b .contract))))

@@ -2,13 +2,23 @@
 use mathlib.Core.Bool.{true, false}
 use mathlib.Core.List.{List}
 use mathlib.Core.Path.{_≡_}
-use Prim.Native.Nat.{ℕ, min, _+_, _/_, _<_, _≤_}
+use Prim.Native.Nat.{ℕ, min, _+_, _/_, _<_}
 use lib.ListN.{length, getD}
 use Rattle.std.specs.Options.{valueOr}
 use Rattle.std.specs.declared.option.Option.{Option}
 use Rattle.std.specs.declared.option.Option.the-variants.{Some, None}
 use Rattle.records.specs.Ranges.{absent-or-between}
 use Rattle.records.specs.Registers.{numbered}
+
+-- the most lots that any centre tells
+abbrev pub most-lots : ℕ
+most-lots = 1000000
+
+abbrev pub largest-pledge : ℕ
+largest-pledge = 1000000000000
+
+abbrev pub largest-margin : ℕ
+largest-margin = 1000000000
 
 -- every entry that is there lies between low and high
 abbrev pub In-range : ℕ → ℕ → List (Option ℕ) → Type 0
@@ -32,7 +42,7 @@ lots-most limits contract = valueOr (entry-of limits contract) 0
 
 -- a pledge divided by a margin per lot, without the fraction, and at most a million
 abbrev pub lots-for : ℕ → ℕ → ℕ
-lots-for pledge margin = min (pledge / margin) 1000000
+lots-for pledge margin = min (pledge / margin) most-lots
 
 -- the pledge centre: both an account's pledge and a contract's margin are needed
 abbrev pub pledge-most : Option ℕ → Option ℕ → ℕ

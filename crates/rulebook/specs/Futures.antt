@@ -11,19 +11,24 @@ use Rattle.rulebook.specs.Legs.{no-bounds}
 use Rattle.rulebook.specs.Rules.{RuleMeaning}
 use Rattle.rulebook.specs.declared.legs.Bounds.{Bounds}
 use Rattle.rulebook.specs.declared.legs.Leg.{Leg}
-use Rattle.rulebook.specs.declared.legs.LegPlace.{LegPlace}
 use Rattle.rulebook.specs.declared.legs.Legs.{Legs}
 use Rattle.rulebook.specs.declared.legs.Legs.the-variants.{NoLeg, One, Two}
 use Rattle.rulebook.specs.declared.listing.Listing.{Listing}
 
+abbrev pub futures-code : ℕ → Bool
+futures-code kind = eqb kind 1
+
 abbrev pub is-futures : Instrument → Bool
-is-futures i = eqb (i .terms .kind) 1
+is-futures i = futures-code (i .terms .kind)
+
+abbrev pub is-nought : ℤ → Bool
+is-nought z = eqb (natAbs z) 0
 
 -- a listed first contract, no second, both bounds 0
 abbrev pub futures-admitted : Instrument → (ℕ → Option Listing) → Bool
 futures-admitted i contracts =
     is-futures i &&
-    (isSome (contracts (i .terms .first)) && (not (isSome (i .terms .second)) && (eqb (natAbs (i .terms .lower)) 0 && eqb (natAbs (i .terms .upper)) 0)))
+    (isSome (contracts (i .terms .first)) && (not (isSome (i .terms .second)) && (is-nought (i .terms .lower) && is-nought (i .terms .upper))))
 
 -- one leg, which a purchase buys
 abbrev pub futures-legs : Instrument → Legs Leg
@@ -38,7 +43,7 @@ one-limits (Two a b) = no-bounds
 abbrev pub futures : RuleMeaning
 futures =
     record {
-      owns = λ kind. eqb kind 1;
+      owns = futures-code;
       admits = futures-admitted;
       legs = futures-legs;
       leg-price = λ i leg price settlements. cond (is-futures i) price (pos 0);

@@ -1,6 +1,4 @@
 -- The legs of an instrument.
-use mathlib.Core.Bool.{true}
-use mathlib.Core.Path.{_≡_}
 use lib.IntN.{pos}
 use Rattle.std.specs.declared.option.Option.{Option}
 use Rattle.std.specs.declared.option.Option.the-variants.{Some, None}
@@ -33,7 +31,7 @@ Each P NoLeg = Unit {0}
 Each P (One a) = P a
 Each P (Two a b) = P a × P b
 
--- what stands for the first leg, and for a leg at a place
+-- what stands for the leg at a place
 abbrev pub leg-at : {T : Type 0} → LegPlace → Legs T → Option T
 leg-at First NoLeg = None
 leg-at First (One a) = Some a

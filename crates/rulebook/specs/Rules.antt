@@ -7,10 +7,11 @@ use lib.IntN.{ℤ}
 use Rattle.std.specs.Options.{isSome}
 use Rattle.std.specs.declared.option.Option.{Option}
 use Rattle.records.specs.Ranges.{within, price-in-range}
+use Rattle.records.specs.Registers.{numbered}
 use Rattle.records.specs.declared.contract.Contract.{Contract}
 use Rattle.records.specs.declared.instrument.Instrument.{Instrument}
-use Rattle.rulebook.specs.Legs.{Each, leg-at, map-legs}
-use Rattle.rulebook.specs.Reading.{leg-terms, limits-of}
+use Rattle.rulebook.specs.Legs.{leg-at, map-legs}
+use Rattle.rulebook.specs.Reading.{leg-terms, limits-of, settlement-of, listing-at}
 use Rattle.rulebook.specs.declared.legs.Bounds.{Bounds}
 use Rattle.rulebook.specs.declared.legs.Leg.{Leg}
 use Rattle.rulebook.specs.declared.legs.LegPlace.{LegPlace}
@@ -24,6 +25,7 @@ pub record RuleMeaning : Type 0 where
   pub owns : ℕ → Bool
   -- whether it admits the instrument, by the underlying and last trading day of each contract that is listed
   pub admits : Instrument → (ℕ → Option Listing) → Bool
+  -- the legs, in the order in which they trade
   pub legs : Instrument → Legs Leg
   -- a leg's price, by the match price and the settlement prices of the legs' contracts
   pub leg-price : Instrument → LegPlace → ℤ → Legs ℤ → ℤ
@@ -32,6 +34,14 @@ pub record RuleMeaning : Type 0 where
   -- whether orders may be dated
   pub dated : Instrument → Bool
 
+-- the bounds that a rule tells of an instrument among the listed contracts
+abbrev pub bounds-now : RuleMeaning → Instrument → List Contract → Bounds
+bounds-now rule i contracts = rule .bounds i (map-legs limits-of (leg-terms contracts (rule .legs i)))
+
+-- the price of a leg at a match price, among the listed contracts
+abbrev pub price-now : RuleMeaning → Instrument → LegPlace → ℤ → List Contract → ℤ
+price-now rule i leg price contracts = rule .leg-price i leg price (map-legs settlement-of (leg-terms contracts (rule .legs i)))
+
 -- two legs are in different contracts
 abbrev pub Apart : Legs Leg → Type 0
 Apart NoLeg = Unit {0}
@@ -39,10 +49,10 @@ Apart (One a) = Unit {0}
 Apart (Two a b) = a .contract ≡ b .contract → ⊥
 
 -- there is a leg, and every leg is in a listed contract
-abbrev pub All-listed : (ℕ → Option Listing) → Legs Leg → Type 0
+abbrev pub All-listed : List Contract → Legs Leg → Type 0
 All-listed contracts NoLeg = ⊥
-All-listed contracts (One a) = isSome (contracts (a .contract)) ≡ true
-All-listed contracts (Two a b) = (isSome (contracts (a .contract)) ≡ true) × (isSome (contracts (b .contract)) ≡ true)
+All-listed contracts (One a) = isSome (numbered contracts (a .contract)) ≡ true
+All-listed contracts (Two a b) = (isSome (numbered contracts (a .contract)) ≡ true) × (isSome (numbered contracts (b .contract)) ≡ true)
 
 abbrev pub Bounds-in-range : Bounds → Type 0
 Bounds-in-range b = (price-in-range (b .lower) ≡ true) × (price-in-range (b .upper) ≡ true)
@@ -50,16 +60,11 @@ Bounds-in-range b = (price-in-range (b .lower) ≡ true) × (price-in-range (b .
 -- The laws. That there are at most two legs, and that each is bought or sold, is said by the types.
 pub record LawfulRule (rule : RuleMeaning) : Type 0 where
   pub apart : (i : Instrument) → Apart (rule .legs i)
-  pub admitted : (i : Instrument) (contracts : ℕ → Option Listing) → rule .admits i contracts ≡ true → All-listed contracts (rule .legs i)
-  -- bounds lie within a million of nought, as the limits of every contract do
-  pub bounded : (i : Instrument) (limits : Legs Bounds) → Each Bounds-in-range limits → Bounds-in-range (rule .bounds i limits)
-  -- a leg's price lies within two million of nought where match price and settlement prices lie within a million
-  pub priced : (i : Instrument) (leg : LegPlace) (price : ℤ) (settlements : Legs ℤ)
-      → isSome (leg-at leg (rule .legs i)) ≡ true
-      → price-in-range price ≡ true
-      → Each (λ s. price-in-range s ≡ true) settlements
-      → within 2000000 (rule .leg-price i leg price settlements) ≡ true
-
--- the bounds that a rule tells of an instrument among the listed contracts
-abbrev pub bounds-now : RuleMeaning → Instrument → List Contract → Bounds
-bounds-now rule i contracts = rule .bounds i (map-legs limits-of (leg-terms contracts (rule .legs i)))
+  -- an admitted record has a leg, and all its legs are in listed contracts
+  pub admitted : (i : Instrument) (contracts : List Contract) → rule .admits i (listing-at contracts) ≡ true → All-listed contracts (rule .legs i)
+  -- bounds lie within a million of nought
+  pub bounded : (i : Instrument) (contracts : List Contract) → Bounds-in-range (bounds-now rule i contracts)
+  -- the price of a leg lies within two million of nought for a match price within a million
+  pub priced : (i : Instrument) (leg : LegPlace) (price : ℤ) (contracts : List Contract)
+      → isSome (leg-at leg (rule .legs i)) ≡ true → price-in-range price ≡ true
+      → within 2000000 (price-now rule i leg price contracts) ≡ true

@@ -1,6 +1,6 @@
 -- Calendar spreads. A purchase of a spread sells the nearby contract and buys the distant one, and a spread's price is
 -- the distant price less the nearby price.
-use mathlib.Core.Bool.{Bool, true, false, _&&_, cond}
+use mathlib.Core.Bool.{Bool, false, _&&_, cond}
 use Prim.Native.Nat.{ℕ}
 use lib.Dec.{eqb, ltb}
 use lib.IntN.{ℤ, pos, _+ℤ_}
@@ -24,9 +24,12 @@ abbrev pub two-months : ℕ → Option ℕ → Option Months
 two-months first None = None
 two-months first (Some second) = cond (eqb second first) None (Some (record { nearby = first; distant = second }))
 
+abbrev pub spread-code : ℕ → Bool
+spread-code kind = eqb kind 2
+
 -- the months of a spread's record
 abbrev pub months-of : Instrument → Option Months
-months-of i = cond (eqb (i .terms .kind) 2) (two-months (i .terms .first) (i .terms .second)) None
+months-of i = cond (spread-code (i .terms .kind)) (two-months (i .terms .first) (i .terms .second)) None
 
 -- both listed, of one underlying, the first with the earlier last trading day
 abbrev pub follows : Option Listing → Option Listing → Bool
@@ -63,7 +66,7 @@ spread-bounds (Some m) i = record { lower = i .terms .lower; upper = i .terms .u
 abbrev pub spread : RuleMeaning
 spread =
     record {
-      owns = λ kind. eqb kind 2;
+      owns = spread-code;
       admits = λ i contracts. spread-admitted (months-of i) contracts;
       legs = λ i. spread-legs (months-of i);
       leg-price = λ i leg price settlements. spread-price (months-of i) leg price settlements;

@@ -4,6 +4,7 @@ use crate::legs::Bounds;
 use crate::legs::Leg;
 use crate::legs::LegPlace;
 use crate::legs::Legs;
+use crate::legs::NO_BOUNDS;
 use crate::reading::listing_at;
 use crate::rule::InstrumentRule;
 use records::codes::Direction;
@@ -47,7 +48,7 @@ pub impl InstrumentRule for FuturesRule as FuturesInstrumentRule {
         instrument: &Instrument,
         _leg: LegPlace,
         price: i32,
-        _contracts: &Legs<ContractTerms>,
+        _terms: &Legs<ContractTerms>,
     ) -> i64 {
         if instrument.terms.kind == FUTURES {
             i64::from(price)
@@ -56,13 +57,13 @@ pub impl InstrumentRule for FuturesRule as FuturesInstrumentRule {
         }
     }
 
-    fn bounds(&self, instrument: &Instrument, contracts: &Legs<ContractTerms>) -> Bounds {
-        match contracts {
-            Legs::One(terms) if instrument.terms.kind == FUTURES => Bounds {
-                lower: terms.lower,
-                upper: terms.upper,
+    fn bounds(&self, instrument: &Instrument, terms: &Legs<ContractTerms>) -> Bounds {
+        match terms {
+            Legs::One(contract) if instrument.terms.kind == FUTURES => Bounds {
+                lower: contract.lower,
+                upper: contract.upper,
             },
-            _ => Bounds { lower: 0, upper: 0 },
+            _ => NO_BOUNDS,
         }
     }
 

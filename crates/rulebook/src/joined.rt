@@ -1,10 +1,11 @@
 ghost use mathlib.Core.Path.{_≡_};
-ghost use Rattle.rulebook.specs.Joined.{joined};
+ghost use Rattle.rulebook.specs.Joined.{joined, owner as owner-in};
 use crate::futures::FuturesRule;
 use crate::legs::Bounds;
 use crate::legs::Leg;
 use crate::legs::LegPlace;
 use crate::legs::Legs;
+use crate::legs::NO_BOUNDS;
 use crate::rule::InstrumentRule;
 use crate::spread::SpreadRule;
 use records::contract::Contract;
@@ -19,8 +20,34 @@ pub struct Joined<A, B> {
     pub second: B,
 }
 
+// Which of two rules replies.
+#[derive(Clone, Copy)]
+pub enum Owner {
+    First,
+    Second,
+    Neither,
+}
+
 // The rules of the exchange.
 pub type ExchangeRules = Joined<FuturesRule, SpreadRule>;
+
+pub const EXCHANGE_RULES: ExchangeRules = Joined {
+    first: FuturesRule,
+    second: SpreadRule,
+};
+
+fn owner_of<A: InstrumentRule, B: InstrumentRule>(rules: &Joined<A, B>, kind: u32) -> Owner
+    ensures { λ r. ⌜ r ≡ owner-in (A·InstrumentRule .meaning (now (rules .entry) .first)) (B·InstrumentRule .meaning (now (rules .entry) .second)) kind ⌝ }
+{
+    if rules.first.owns(kind) {
+        return Owner::First;
+    }
+    if rules.second.owns(kind) {
+        Owner::Second
+    } else {
+        Owner::Neither
+    }
+}
 
 pub impl<A: InstrumentRule, B: InstrumentRule> InstrumentRule for Joined<
     A,
@@ -33,22 +60,18 @@ pub impl<A: InstrumentRule, B: InstrumentRule> InstrumentRule for Joined<
     }
 
     fn admits(&self, instrument: &Instrument, contracts: &[Contract]) -> bool {
-        if self.first.owns(instrument.terms.kind) {
-            self.first.admits(instrument, contracts)
-        } else if self.second.owns(instrument.terms.kind) {
-            self.second.admits(instrument, contracts)
-        } else {
-            false
+        match owner_of(self, instrument.terms.kind) {
+            Owner::First => self.first.admits(instrument, contracts),
+            Owner::Second => self.second.admits(instrument, contracts),
+            Owner::Neither => false,
         }
     }
 
     fn legs(&self, instrument: &Instrument) -> Legs<Leg> {
-        if self.first.owns(instrument.terms.kind) {
-            self.first.legs(instrument)
-        } else if self.second.owns(instrument.terms.kind) {
-            self.second.legs(instrument)
-        } else {
-            Legs::NoLeg
+        match owner_of(self, instrument.terms.kind) {
+            Owner::First => self.first.legs(instrument),
+            Owner::Second => self.second.legs(instrument),
+            Owner::Neither => Legs::NoLeg,
         }
     }
 
@@ -57,34 +80,28 @@ pub impl<A: InstrumentRule, B: InstrumentRule> InstrumentRule for Joined<
         instrument: &Instrument,
         leg: LegPlace,
         price: i32,
-        contracts: &Legs<ContractTerms>,
+        terms: &Legs<ContractTerms>,
     ) -> i64 {
-        if self.first.owns(instrument.terms.kind) {
-            self.first.leg_price(instrument, leg, price, contracts)
-        } else if self.second.owns(instrument.terms.kind) {
-            self.second.leg_price(instrument, leg, price, contracts)
-        } else {
-            0
+        match owner_of(self, instrument.terms.kind) {
+            Owner::First => self.first.leg_price(instrument, leg, price, terms),
+            Owner::Second => self.second.leg_price(instrument, leg, price, terms),
+            Owner::Neither => 0,
         }
     }
 
-    fn bounds(&self, instrument: &Instrument, contracts: &Legs<ContractTerms>) -> Bounds {
-        if self.first.owns(instrument.terms.kind) {
-            self.first.bounds(instrument, contracts)
-        } else if self.second.owns(instrument.terms.kind) {
-            self.second.bounds(instrument, contracts)
-        } else {
-            Bounds { lower: 0, upper: 0 }
+    fn bounds(&self, instrument: &Instrument, terms: &Legs<ContractTerms>) -> Bounds {
+        match owner_of(self, instrument.terms.kind) {
+            Owner::First => self.first.bounds(instrument, terms),
+            Owner::Second => self.second.bounds(instrument, terms),
+            Owner::Neither => NO_BOUNDS,
         }
     }
 
     fn may_be_dated(&self, instrument: &Instrument) -> bool {
-        if self.first.owns(instrument.terms.kind) {
-            self.first.may_be_dated(instrument)
-        } else if self.second.owns(instrument.terms.kind) {
-            self.second.may_be_dated(instrument)
-        } else {
-            false
+        match owner_of(self, instrument.terms.kind) {
+            Owner::First => self.first.may_be_dated(instrument),
+            Owner::Second => self.second.may_be_dated(instrument),
+            Owner::Neither => false,
         }
     }
 }

@@ -32,6 +32,8 @@ pub struct Bounds {
     pub upper: i32,
 }
 
+pub const NO_BOUNDS: Bounds = Bounds { lower: 0, upper: 0 };
+
 impl Leg {
     // What an order of this direction does in the leg's contract.
     pub fn direction_in(&self, order: Direction) -> Direction

@@ -1,19 +1,18 @@
 ghost use mathlib.Core.Path.{_≡_};
 ghost use Rattle.std.specs.Results.{Cases};
-ghost use Rattle.rulebook.specs.Centres.{In-range, lots-most};
+ghost use Rattle.rulebook.specs.Centres.{In-range, lots-most, most-lots};
 ghost use Rattle.rulebook.specs.Faults.{Lots-fault};
 use crate::centre::ClearingCentre;
+use crate::centre::MOST_LOTS;
 use crate::fault::OutOfRange;
 use crate::table::entry_at;
 use crate::table::first_outside;
-
-const MOST_LOTS: u64 = 1_000_000;
 
 // The clearing centre with one number for each contract.
 #[derive(Clone, Copy)]
 pub struct LotsCentre {
     limits: [Option<u64>; 32],
-    ghost within: { In-range 0 1000000 limits },
+    ghost within: { In-range 0 most-lots limits },
 }
 
 impl LotsCentre {

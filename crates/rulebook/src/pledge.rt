@@ -1,9 +1,10 @@
 ghost use mathlib.Core.Path.{_≡_};
-ghost use Prim.Native.Nat.{_≤_, _<_};
+ghost use Prim.Native.Nat.{_<_};
 ghost use Rattle.std.specs.Results.{Cases};
-ghost use Rattle.rulebook.specs.Centres.{In-range, entry-of, pledge-most, lots-for as lots-of};
+ghost use Rattle.rulebook.specs.Centres.{largest-pledge, largest-margin, In-range, entry-of, pledge-most, lots-for as lots-of};
 ghost use Rattle.rulebook.specs.Faults.{Pledge-fault};
 use crate::centre::ClearingCentre;
+use crate::centre::MOST_LOTS;
 use crate::fault::OutOfRange;
 use crate::table::entry_at;
 use crate::table::first_outside;
@@ -12,15 +13,13 @@ const LARGEST_PLEDGE: u64 = 1_000_000_000_000;
 
 const LARGEST_MARGIN: u64 = 1_000_000_000;
 
-const MOST_LOTS: u64 = 1_000_000;
-
 // The clearing centre that lets an account's pledge carry as many lots as it has margin for.
 #[derive(Clone, Copy)]
 pub struct PledgeCentre {
     pledges: [Option<u64>; 64],
     margins: [Option<u64>; 32],
-    ghost pledges_within: { In-range 0 1000000000000 pledges },
-    ghost margins_within: { In-range 1 1000000000 margins },
+    ghost pledges_within: { In-range 0 largest-pledge pledges },
+    ghost margins_within: { In-range 1 largest-margin margins },
 }
 
 // How many lots of this margin the pledge carries, a million at most.

@@ -13,6 +13,7 @@ use records::terms::ContractTerms;
 
 // What the market asks about an instrument's record. Asking changes nothing.
 pub trait InstrumentRule {
+    // what the rule tells
     ghost meaning: { Self → RuleMeaning };
 
     law lawful: { (s : Self) → LawfulRule (meaning s) };
@@ -25,22 +26,23 @@ pub trait InstrumentRule {
     fn admits(&self, instrument: &Instrument, contracts: &[Contract]) -> bool
         ensures { λ r. ⌜ r ≡ meaning (now (self .entry)) .admits (now (instrument .entry)) (listing-at (now (contracts .entry))) ⌝ };
 
+    // The legs, in the order in which they trade, each with what a purchase does in it.
     fn legs(&self, instrument: &Instrument) -> Legs<Leg>
         ensures { λ r. ⌜ r ≡ meaning (now (self .entry)) .legs (now (instrument .entry)) ⌝ };
 
-    // The price of a leg at a match price; `contracts` has the terms of the legs' contracts.
+    // The price of a leg at a match price; `terms` are those of the legs' contracts.
     fn leg_price(
         &self,
         instrument: &Instrument,
         leg: LegPlace,
         price: i32,
-        contracts: &Legs<ContractTerms>,
+        terms: &Legs<ContractTerms>,
     ) -> i64
-        ensures { λ r. ⌜ r ≡ meaning (now (self .entry)) .leg-price (now (instrument .entry)) leg price (map-legs settlement-of (now (contracts .entry))) ⌝ };
+        ensures { λ r. ⌜ r ≡ meaning (now (self .entry)) .leg-price (now (instrument .entry)) leg price (map-legs settlement-of (now (terms .entry))) ⌝ };
 
-    // The price bounds; `contracts` has the terms of the legs' contracts.
-    fn bounds(&self, instrument: &Instrument, contracts: &Legs<ContractTerms>) -> Bounds
-        ensures { λ r. ⌜ r ≡ meaning (now (self .entry)) .bounds (now (instrument .entry)) (map-legs limits-of (now (contracts .entry))) ⌝ };
+    // The price bounds; `terms` are those of the legs' contracts.
+    fn bounds(&self, instrument: &Instrument, terms: &Legs<ContractTerms>) -> Bounds
+        ensures { λ r. ⌜ r ≡ meaning (now (self .entry)) .bounds (now (instrument .entry)) (map-legs limits-of (now (terms .entry))) ⌝ };
 
     // Whether orders may have an expiry date.
     fn may_be_dated(&self, instrument: &Instrument) -> bool

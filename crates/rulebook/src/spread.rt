@@ -6,6 +6,7 @@ use crate::legs::Bounds;
 use crate::legs::Leg;
 use crate::legs::LegPlace;
 use crate::legs::Legs;
+use crate::legs::NO_BOUNDS;
 use crate::listing::Listing;
 use crate::months::Months;
 use crate::reading::listing_at;
@@ -35,7 +36,7 @@ fn months(instrument: &Instrument) -> Option<Months>
     }
 }
 
-// Whether the second contract is of the first one's underlying and has the later last trading day.
+// Whether both contracts are listed, of one underlying, the second with the later last trading day.
 fn follows(nearby: Option<Listing>, distant: Option<Listing>) -> bool
     ensures { λ r. ⌜ r ≡ follows-in nearby distant ⌝ }
 {
@@ -45,10 +46,10 @@ fn follows(nearby: Option<Listing>, distant: Option<Listing>) -> bool
     }
 }
 
-fn nearby_settlement(contracts: &Legs<ContractTerms>) -> i32
-    ensures { λ r. ⌜ r ≡ settlement-in (map-legs settlement-of (now (contracts .entry))) ⌝ }
+fn nearby_settlement(terms: &Legs<ContractTerms>) -> i32
+    ensures { λ r. ⌜ r ≡ settlement-in (map-legs settlement-of (now (terms .entry))) ⌝ }
 {
-    match contracts {
+    match terms {
         Legs::NoLeg => 0,
         Legs::One(nearby) => nearby.settlement,
         Legs::Two(nearby, _) => nearby.settlement,
@@ -93,9 +94,9 @@ pub impl InstrumentRule for SpreadRule as SpreadInstrumentRule {
         instrument: &Instrument,
         leg: LegPlace,
         price: i32,
-        contracts: &Legs<ContractTerms>,
+        terms: &Legs<ContractTerms>,
     ) -> i64 {
-        let nearby = i64::from(nearby_settlement(contracts));
+        let nearby = i64::from(nearby_settlement(terms));
         match (months(instrument), leg) {
             (Some(_), LegPlace::First) => nearby,
             (Some(_), LegPlace::Second) => nearby + i64::from(price),
@@ -103,13 +104,13 @@ pub impl InstrumentRule for SpreadRule as SpreadInstrumentRule {
         }
     }
 
-    fn bounds(&self, instrument: &Instrument, _contracts: &Legs<ContractTerms>) -> Bounds {
+    fn bounds(&self, instrument: &Instrument, _terms: &Legs<ContractTerms>) -> Bounds {
         match months(instrument) {
             Some(_) => Bounds {
                 lower: instrument.terms.lower,
                 upper: instrument.terms.upper,
             },
-            None => Bounds { lower: 0, upper: 0 },
+            None => NO_BOUNDS,
         }
     }
 

@@ -9,12 +9,12 @@ use Rattle.sample.specs.declared.Struck.{Struck}
 
 -- whoever buys the instrument takes a leg that a purchase buys, and gives one that a purchase sells
 abbrev pub taker : Direction → Struck → ℕ
-taker Buy s = s .buyer
-taker Sell s = s .seller
+taker Buy s = s .«buying_order»
+taker Sell s = s .«selling_order»
 
 abbrev pub giver : Direction → Struck → ℕ
-giver Buy s = s .seller
-giver Sell s = s .buyer
+giver Buy s = s .«selling_order»
+giver Sell s = s .«buying_order»
 
 abbrev pub leg-trade : Struck → Leg → ℤ → Trade
 leg-trade s leg price =

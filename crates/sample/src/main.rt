@@ -1,10 +1,7 @@
 ghost use mathlib.Core.Bool.{true};
 ghost use mathlib.Core.Path.{_≡_};
-ghost use Rattle.std.specs.Options.{isSome};
 ghost use Rattle.records.specs.Ranges.{price-in-range};
 ghost use Rattle.records.specs.Registers.{Fits};
-ghost use Rattle.rulebook.specs.Legs.{Each, map-legs, leg-at};
-ghost use Rattle.rulebook.specs.Reading.{settlement-of};
 ghost use Rattle.sample.specs.Struck.{leg-trade as trade-of};
 use records::codes::Direction;
 use records::contract::Contract;
@@ -16,24 +13,20 @@ use records::terms::ContractTerms;
 use records::terms::InstrumentTerms;
 use rulebook::asking::trade_price;
 use rulebook::futures::FuturesInstrumentRule;
-use rulebook::futures::FuturesRule;
-use rulebook::joined::ExchangeRules;
-use rulebook::joined::Joined;
+use rulebook::joined::EXCHANGE_RULES;
 use rulebook::joined::JoinedInstrumentRule;
 use rulebook::legs::Leg;
 use rulebook::legs::LegPlace;
 use rulebook::legs::Legs;
-use rulebook::reading::leg_terms;
 use rulebook::rule::InstrumentRule;
 use rulebook::spread::SpreadInstrumentRule;
-use rulebook::spread::SpreadRule;
 use std::error::AnyError;
 
 // Two orders that met: who bought and who sold the instrument, how much, and at which price.
 #[derive(Clone, Copy)]
 struct Struck {
-    buyer: u32,
-    seller: u32,
+    buying_order: u32,
+    selling_order: u32,
     quantity: u32,
     price: i32,
 }
@@ -42,18 +35,18 @@ struct Struck {
 fn leg_trade(struck: &Struck, leg: &Leg, price: i32) -> Trade
     ensures { λ r. ⌜ r ≡ trade-of (now (struck .entry)) (now (leg .entry)) price ⌝ }
 {
-    match leg.direction_in(Direction::Buy) {
+    match leg.in_purchase {
         Direction::Buy => Trade {
             contract: leg.contract,
-            buying_order: struck.buyer,
-            selling_order: struck.seller,
+            buying_order: struck.buying_order,
+            selling_order: struck.selling_order,
             quantity: struck.quantity,
             price,
         },
         Direction::Sell => Trade {
             contract: leg.contract,
-            buying_order: struck.seller,
-            selling_order: struck.buyer,
+            buying_order: struck.selling_order,
+            selling_order: struck.buying_order,
             quantity: struck.quantity,
             price,
         },
@@ -73,17 +66,15 @@ fn strike<R: InstrumentRule>(
     requires price { ⌜ price-in-range (now struck .price) ≡ true ⌝ }
     ensures { λ _. ⌜ Fits (now (trades .exit)) ⌝ }
 {
-    let legs = rule.legs(instrument);
-    let terms = leg_terms(contracts, &legs);
-    match legs {
+    match rule.legs(instrument) {
         Legs::NoLeg => Err("the instrument has no leg".into()),
         Legs::One(a) => {
-            let first = trade_price(rule, instrument, LegPlace::First, struck.price, &terms);
+            let first = trade_price(rule, instrument, LegPlace::First, struck.price, contracts);
             enter(rt, trades, leg_trade(struck, &a, first))
         }
         Legs::Two(a, b) => {
-            let first = trade_price(rule, instrument, LegPlace::First, struck.price, &terms);
-            let second = trade_price(rule, instrument, LegPlace::Second, struck.price, &terms);
+            let first = trade_price(rule, instrument, LegPlace::First, struck.price, contracts);
+            let second = trade_price(rule, instrument, LegPlace::Second, struck.price, contracts);
             enter(rt, trades, leg_trade(struck, &a, first))?;
             enter(rt, trades, leg_trade(struck, &b, second))
         }
@@ -139,6 +130,23 @@ fn contract(last_day: u32, lower: i32, settlement: i32, upper: i32) -> Option<Co
     })
 }
 
+// Says what is struck, and who takes which month.
+fn announce(rt: &LibcRuntime, struck: &Struck, settlement: i32) -> Result<(), AnyError> {
+    let buyer = struck.buying_order;
+    let seller = struck.selling_order;
+    let quantity = struck.quantity;
+    let price = struck.price;
+    println!(
+        rt,
+        "order {buyer} buys and order {seller} sells {quantity} spreads of contracts 1 and 2 at {price}; contract 1 is settled at {settlement}"
+    )?;
+    println!(
+        rt,
+        "whoever buys the spread sells the nearby contract and buys the distant one"
+    )?;
+    Ok(())
+}
+
 fn run(rt: &LibcRuntime) -> Result<(), AnyError> {
     let Some(nearby) = contract(90, 900, 1_000, 1_100) else {
         return Err("the nearby contract is out of range".into());
@@ -147,10 +155,6 @@ fn run(rt: &LibcRuntime) -> Result<(), AnyError> {
         return Err("the distant contract is out of range".into());
     };
     let contracts = [nearby, distant];
-    let rules: ExchangeRules = Joined {
-        first: FuturesRule,
-        second: SpreadRule,
-    };
     let Some(spread) = Instrument::new(InstrumentTerms {
         kind: 2,
         first: 1,
@@ -160,17 +164,16 @@ fn run(rt: &LibcRuntime) -> Result<(), AnyError> {
     }) else {
         return Err("the instrument is out of range".into());
     };
-    if !rules.admits(&spread, &contracts) {
+    if !EXCHANGE_RULES.admits(&spread, &contracts) {
         return Err("the spread is not admitted".into());
     }
-    println!(
-        rt,
-        "order 1 buys and order 2 sells 15 spreads of contracts 1 and 2 at 12; contract 1 is settled at 1000"
-    )?;
-    println!(
-        rt,
-        "whoever buys the spread sells the nearby contract and buys the distant one"
-    )?;
+    let struck = Struck {
+        buying_order: 1,
+        selling_order: 2,
+        quantity: 15,
+        price: 12,
+    };
+    announce(rt, &struck, nearby.terms.settlement)?;
     let mut places = [Trade {
         contract: 0,
         buying_order: 0,
@@ -179,13 +182,14 @@ fn run(rt: &LibcRuntime) -> Result<(), AnyError> {
         price: 0,
     }; 2];
     let mut trades = Register::begin(&mut places);
-    let struck = Struck {
-        buyer: 1,
-        seller: 2,
-        quantity: 15,
-        price: 12,
-    };
-    strike(rt, &rules, &spread, &contracts, &struck, &mut trades)?;
+    strike(
+        rt,
+        &EXCHANGE_RULES,
+        &spread,
+        &contracts,
+        &struck,
+        &mut trades,
+    )?;
     read_back(rt, &trades)
 }
 

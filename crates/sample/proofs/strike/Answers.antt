@@ -1,6 +1,5 @@
 use borrow.Author.Needs.{needs}
 use mathlib.Core.Bool.{true}
-use mathlib.Core.List.{List}
 use mathlib.Core.Path.{_≡_, refl, sym, ap, subst, _∙_}
 use lib.IntN.{ℤ}
 use mir.Syntax.{w32}
@@ -8,15 +7,11 @@ use mir.Val.{SFits, toZ, ofZ}
 use Rattle.std.proofs.shelf.Signed.{toZ-ofZ}
 use Rattle.std.specs.Options.{isSome}
 use Rattle.records.specs.Ranges.{price-in-range}
-use Rattle.records.specs.declared.contract.Contract.{Contract}
-use Rattle.records.specs.declared.terms.ContractTerms.{ContractTerms}
-use Rattle.rulebook.specs.Legs.{Each, map-legs, leg-at}
-use Rattle.rulebook.specs.Reading.{leg-terms, settlement-of}
+use Rattle.rulebook.specs.Legs.{leg-at}
 use Rattle.rulebook.specs.declared.legs.Leg.{Leg}
 use Rattle.rulebook.specs.declared.legs.LegPlace.{LegPlace}
 use Rattle.rulebook.specs.declared.legs.LegPlace.the-variants.{First, Second}
 use Rattle.rulebook.specs.declared.legs.Legs.{Legs}
-use Rattle.rulebook.proofs.Readings.{settlements-in-range}
 use Rattle.sample.proofs.strike.Needs as need
 
 -- the leg is there, in the rule's own answer
@@ -26,32 +21,17 @@ there place told legs found e is h = subst (λ l. isSome (leg-at place l) ≡ tr
 passed : (p : ℤ) → SFits w32 p → price-in-range p ≡ true → price-in-range (toZ w32 (ofZ w32 p)) ≡ true
 passed p fits h = ap price-in-range (toZ-ofZ w32 p fits) ∙ h
 
-read : (contracts : List Contract) (legs : Legs Leg) (terms : Legs ContractTerms) → terms ≡ leg-terms contracts legs → Each (λ s. price-in-range s ≡ true) (map-legs settlement-of terms)
-read contracts legs terms e = subst (λ t. Each (λ s. price-in-range s ≡ true) (map-legs settlement-of t)) (sym e) (settlements-in-range contracts legs)
-
 pub trade-price-first-requires : need.trade-price-first-requires
 trade-price-first-requires g c κs =
     let fits : SFits w32 (c .args .struck .now .price) = search needs in
-    record {
-      leg = there First (c .legs-legs .result) _ _ (c .legs-legs .ensures) (c .in-One .is) refl;
-      price = passed (c .args .struck .now .price) fits (c .pre .price);
-      settlements = read (c .args .contracts .now) (c .legs-legs .result) (c .leg-terms-terms .result) (c .leg-terms-terms .ensures);
-    }
+    record { leg = there First (c .legs .result) _ _ (c .legs .ensures) (c .in-One .is) refl; price = passed (c .args .struck .now .price) fits (c .pre .price) }
 
 pub trade-price-first-requires-in-Two : need.trade-price-first-requires-in-Two
 trade-price-first-requires-in-Two g c κs =
     let fits : SFits w32 (c .args .struck .now .price) = search needs in
-    record {
-      leg = there First (c .legs-legs .result) _ _ (c .legs-legs .ensures) (c .in-Two .is) refl;
-      price = passed (c .args .struck .now .price) fits (c .pre .price);
-      settlements = read (c .args .contracts .now) (c .legs-legs .result) (c .leg-terms-terms .result) (c .leg-terms-terms .ensures);
-    }
+    record { leg = there First (c .legs .result) _ _ (c .legs .ensures) (c .in-Two .is) refl; price = passed (c .args .struck .now .price) fits (c .pre .price) }
 
 pub trade-price-second-requires : need.trade-price-second-requires
 trade-price-second-requires g c κs =
     let fits : SFits w32 (c .args .struck .now .price) = search needs in
-    record {
-      leg = there Second (c .legs-legs .result) _ _ (c .legs-legs .ensures) (c .in-Two .is) refl;
-      price = passed (c .args .struck .now .price) fits (c .pre .price);
-      settlements = read (c .args .contracts .now) (c .legs-legs .result) (c .leg-terms-terms .result) (c .leg-terms-terms .ensures);
-    }
+    record { leg = there Second (c .legs .result) _ _ (c .legs .ensures) (c .in-Two .is) refl; price = passed (c .args .struck .now .price) fits (c .pre .price) }
