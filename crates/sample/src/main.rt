@@ -1,14 +1,20 @@
 ghost use mathlib.Core.Bool.{true};
 ghost use mathlib.Core.Path.{_≡_};
+ghost use Rattle.books.specs.Ledgers.{Sound};
 ghost use Rattle.records.specs.Ranges.{price-in-range};
 ghost use Rattle.records.specs.Registers.{Fits};
 ghost use Rattle.sample.specs.Struck.{leg-trade as trade-of};
+use books::ledger::Ledger;
+use books::value::difference_in;
+use records::account::Account;
 use records::codes::Direction;
 use records::contract::Contract;
 use records::instrument::Instrument;
+use records::numbering::record_of;
 use records::register::Register;
 use records::register::TradeRegister;
 use records::rows::Trade;
+use records::terms::AccountTerms;
 use records::terms::ContractTerms;
 use records::terms::InstrumentTerms;
 use rulebook::asking::trade_price;
@@ -130,6 +136,79 @@ fn contract(last_day: u32, lower: i32, settlement: i32, upper: i32) -> Option<Co
     })
 }
 
+// Books a trade between the accounts that own its two orders; here order n is account n's.
+fn book(ledger: &mut Ledger, contracts: &[Contract], trade: &Trade) -> Result<(), AnyError>
+    requires { ⌜ Sound (now ledger) ⌝ }
+    ensures { λ _. ⌜ Sound (now (ledger .exit)) ⌝ }
+{
+    let Some(contract) = record_of(contracts, trade.contract as usize) else {
+        return Err("the contract is not listed".into());
+    };
+    if trade.price < -2_000_000 || trade.price > 2_000_000 {
+        return Err("the price is out of range".into());
+    }
+    let difference = difference_in(&contract, trade.price);
+    if !ledger.try_book(
+        trade,
+        trade.buying_order as usize,
+        trade.selling_order as usize,
+        difference,
+    ) {
+        return Err("the trade cannot be booked".into());
+    }
+    Ok(())
+}
+
+fn book_all(
+    ledger: &mut Ledger,
+    contracts: &[Contract],
+    trades: &TradeRegister,
+) -> Result<(), AnyError>
+    requires { ⌜ Sound (now ledger) ⌝ ∗ ⌜ Fits (now trades) ⌝ }
+    ensures { λ _. ⌜ Sound (now (ledger .exit)) ⌝ }
+{
+    for at in 0..trades.len() {
+        if let Some(trade) = trades.get(at + 1) {
+            book(ledger, contracts, &trade)?;
+        }
+    }
+    Ok(())
+}
+
+fn show_accounts(rt: &LibcRuntime, ledger: &Ledger) -> Result<(), AnyError>
+    requires { ⌜ Sound (now ledger) ⌝ }
+{
+    for at in 0..ledger.len() {
+        if let Some(account) = ledger.get(at + 1) {
+            let number = at + 1;
+            let nearby = account.positions[0];
+            let distant = account.positions[1];
+            let money = account.money;
+            println!(
+                rt,
+                "account {number}: nearby {nearby} distant {distant} money {money}"
+            )?;
+        }
+    }
+    Ok(())
+}
+
+fn admit(ledger: &mut Ledger, participant: u32, taxpayer: u32) -> Result<(), AnyError>
+    requires { ⌜ Sound (now ledger) ⌝ }
+    ensures { λ _. ⌜ Sound (now (ledger .exit)) ⌝ }
+{
+    let Some(account) = Account::new(AccountTerms {
+        participant,
+        taxpayer,
+    }) else {
+        return Err("the account is out of range".into());
+    };
+    match ledger.admit(account) {
+        Some(_) => Ok(()),
+        None => Err("there are too many accounts".into()),
+    }
+}
+
 // Says what is struck, and who takes which month.
 fn announce(rt: &LibcRuntime, struck: &Struck, settlement: i32) -> Result<(), AnyError> {
     let buyer = struck.buying_order;
@@ -190,7 +269,16 @@ fn run(rt: &LibcRuntime) -> Result<(), AnyError> {
         &struck,
         &mut trades,
     )?;
-    read_back(rt, &trades)
+    read_back(rt, &trades)?;
+    let mut ledger = Ledger::new();
+    admit(&mut ledger, 11, 501)?;
+    admit(&mut ledger, 12, 502)?;
+    book_all(&mut ledger, &contracts, &trades)?;
+    println!(
+        rt,
+        "order 1 is account 1's and order 2 account 2's; with both trades booked:"
+    )?;
+    show_accounts(rt, &ledger)
 }
 
 fn main(rt: LibcRuntime) -> Result<(), AnyError> {

@@ -1,0 +1,11 @@
+pub mod Booked
+pub mod Booking
+pub mod Entering
+pub mod Holdings
+pub mod Revalued
+pub mod Revaluing
+pub mod Rooms
+pub mod Small
+pub mod Sums
+pub mod Values
+pub mod Within

@@ -1,0 +1,48 @@
+ghost use mathlib.Core.Path.{_≡_};
+ghost use Prim.Native.Nat.{_*_, _≤_, _<_};
+ghost use lib.IntN.{pos, natAbs, _-ℤ_, _*ℤ_};
+ghost use lib.Signed.{quotZ};
+ghost use Rattle.books.specs.Value.{value as value-of};
+use records::contract::Contract;
+
+fn times(price: i32, w: u32) -> i64
+    requires { ⌜ natAbs price ≤ 2000000 ⌝ ∗ ⌜ w ≤ 1000 ⌝ }
+    ensures { λ v. ⌜ v ≡ price *ℤ pos w ⌝ }
+{
+    i64::from(price) * i64::from(w)
+}
+
+fn divided(n: i64, r: u32) -> i64
+    requires { ⌜ 0 < r ⌝ ∗ ⌜ natAbs n ≤ 2000000000 ⌝ }
+    ensures { λ v. ⌜ v ≡ quotZ n (pos r) ⌝ }
+{
+    n / i64::from(r)
+}
+
+// The value of a price in a contract: the price times W, divided by R, rounded towards nought.
+pub fn value_in(contract: &Contract, price: i32) -> i64
+    requires { ⌜ natAbs price ≤ 2000000 ⌝ }
+    ensures value { λ v. ⌜ v ≡ value-of price (now (contract .entry) .terms .w) (now (contract .entry) .terms .r) ⌝ }
+    ensures bound { λ v. ⌜ natAbs v ≤ 1000 * natAbs price ⌝ }
+{
+    divided(times(price, contract.terms.w), contract.terms.r)
+}
+
+fn less(a: i64, b: i64) -> i64
+    requires { ⌜ natAbs a ≤ 1000000000 ⌝ ∗ ⌜ natAbs b ≤ 2000000000 ⌝ }
+    ensures { λ r. ⌜ r ≡ a -ℤ b ⌝ }
+{
+    a - b
+}
+
+// The value of a contract's settlement price less the value of another price: what a lot bought at that price gains.
+pub fn difference_in(contract: &Contract, price: i32) -> i64
+    requires { ⌜ natAbs price ≤ 2000000 ⌝ }
+    ensures value { λ r. ⌜ r ≡ value-of (now (contract .entry) .terms .settlement) (now (contract .entry) .terms .w) (now (contract .entry) .terms .r) -ℤ value-of price (now (contract .entry) .terms .w) (now (contract .entry) .terms .r) ⌝ }
+    ensures bound { λ r. ⌜ natAbs r ≤ 3000000000 ⌝ }
+{
+    less(
+        value_in(contract, contract.terms.settlement),
+        value_in(contract, price),
+    )
+}

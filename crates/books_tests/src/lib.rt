@@ -1,0 +1,5 @@
+// Edge cases of values, booking and revaluation.
+#[cfg(test)]
+mod booking;
+#[cfg(test)]
+mod values;
