@@ -11,6 +11,7 @@ use lib.ListN.{length}
 use borrow.Author.Differences.{ints}
 use Rattle.std.specs.shelf.Lists.{All}
 use Rattle.records.specs.declared.rows.Trade.{Trade}
+use Rattle.books.specs.Accounts.{position, money}
 use Rattle.books.specs.Bounds.{Bounded, Lawful-trade, Sums-stay-small}
 use Rattle.books.specs.Entries.{Reading, sumZ, when, difference, brought, lots-due, money-due}
 use Rattle.books.proofs.Within.{mul-within, add-within, sub-within}
@@ -57,4 +58,6 @@ pub sums-stay-small : Sums-stay-small
 sums-stay-small r accounts ts b all few g a contract =
     let lots : natAbs (lots-due r a contract ts) ≤ length ts * 10000 = sum-within (λ t. when (eqb (t .contract) contract) (brought r a t)) 10000 (lots-within r b a contract) ts all in
     let gains : natAbs (money-due r a ts) ≤ length ts * 30000000000000 = sum-within (λ t. brought r a t *ℤ difference r t) 30000000000000 (gains-within r b a) ts all in
-    (subst (λ z. natAbs z ≤ 81920000) (sym (g .lots a contract)) (omega arith), subst (λ z. natAbs z ≤ 245760000000000000) (sym (g .gains a)) (omega arith))
+    let lots-few : natAbs (position accounts a contract) ≤ 81920000 = subst (λ z. natAbs z ≤ 81920000) (sym (g .lots a contract)) (omega arith) in
+    let money-little : natAbs (money accounts a) ≤ 245760000000000000 = subst (λ z. natAbs z ≤ 245760000000000000) (sym (g .gains a)) (omega arith) in
+    ((lots-few, money-little), (omega arith, omega arith))

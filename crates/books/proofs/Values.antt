@@ -1,7 +1,7 @@
 -- The value of a price is bounded.
 use mathlib.Core.Bool.{true}
 use mathlib.Core.Path.{_≡_, refl, sym, ap, subst, _∙_}
-use Prim.Native.Nat.{ℕ, _*_, _^_, _≤_, _<_}
+use Prim.Native.Nat.{ℕ, _+_, _*_, _^_, _≤_, _<_}
 use native.Mathlib.Nat.{mul-comm, le-trans, mul-le-mul}
 use native.Mathlib.Omega.{arith}
 use lib.Dec.{leb}
@@ -98,12 +98,12 @@ module _ (c : Contract) (price : ℤ) (passed : SFits w32 price) (told : ℤ) (e
   pub told-same : natAbs price ≤ 2000000 → toZ w64 (ofZ w64 told) ≡ value price (c .terms .w) (c .terms .r)
   told-same h = toZ-ofZ w64 told (fits told (omega (arith, told-small))) ∙ told-is
 
-module _ (a b result : ℤ) (ha : natAbs a ≤ 1000000000) (hb : natAbs b ≤ 2000000000) (e : result ≡ a -ℤ b) where
-  result-small : natAbs result ≤ 3000000000
-  result-small = subst (λ z. natAbs z ≤ 3000000000) (sym e) (sub-within a b 1000000000 2000000000 ha hb)
+module _ (a b result : ℤ) (m n : ℕ) (ha : natAbs a ≤ m) (hb : natAbs b ≤ n) (l : m + n < 2 ^ 63) (e : result ≡ a -ℤ b) where
+  result-small : natAbs result ≤ m + n
+  result-small = subst (λ z. natAbs z ≤ m + n) (sym e) (sub-within a b m n ha hb)
 
   pub difference-same : toZ w64 (ofZ w64 result) ≡ a -ℤ b
   difference-same = toZ-ofZ w64 result (fits result (omega (arith, result-small))) ∙ e
 
-  pub difference-small : natAbs (toZ w64 (ofZ w64 result)) ≤ 3000000000
-  difference-small = subst (λ z. natAbs z ≤ 3000000000) (sym (toZ-ofZ w64 result (fits result (omega (arith, result-small))))) result-small
+  pub difference-small : natAbs (toZ w64 (ofZ w64 result)) ≤ m + n
+  difference-small = subst (λ z. natAbs z ≤ m + n) (sym (toZ-ofZ w64 result (fits result (omega (arith, result-small))))) result-small

@@ -9,6 +9,7 @@ use Rattle.records.specs.declared.account.Account.{Account}
 use Rattle.records.specs.declared.rows.Trade.{Trade}
 use Rattle.books.specs.Accounts.{position, money}
 use Rattle.books.specs.Entries.{Reading, Agrees}
+use Rattle.books.specs.Ledgers.{Room}
 
 -- a value function that is bounded as the value of a price is, and settlement prices in range
 pub record Bounded (r : Reading) : Type 0 where
@@ -23,4 +24,4 @@ Lawful-trade t = (t .quantity ≤ 10000) × (natAbs (t .price) ≤ 2000000)
 abbrev pub Sums-stay-small : Type 0
 Sums-stay-small =
     (r : Reading) (accounts : List Account) (ts : List Trade) → Bounded r → All Lawful-trade ts → length ts ≤ 8192 → Agrees r accounts ts
-    → (a contract : ℕ) → (natAbs (position accounts a contract) ≤ 81920000) × (natAbs (money accounts a) ≤ 245760000000000000)
+    → (a contract : ℕ) → ((natAbs (position accounts a contract) ≤ 81920000) × (natAbs (money accounts a) ≤ 245760000000000000)) × Room accounts a contract

@@ -2,12 +2,12 @@
 use mathlib.Core.List.{List, _∷_, [], _++_}
 use mathlib.Core.Path.{_≡_}
 use Prim.Native.Nat.{ℕ, _≤_}
-use lib.IntN.{ℤ, natAbs}
-use lib.ListN.{length, take}
+use lib.IntN.{ℤ, pos, natAbs}
+use lib.ListN.{length, take, replicate}
 use Rattle.records.specs.declared.account.Account.{Account}
 use Rattle.records.specs.declared.rows.Trade.{Trade}
 use Rattle.books.specs.Accounts.{holding, position, money}
-use Rattle.books.specs.Entries.{Reading, difference, settled-at, change-to, Agrees}
+use Rattle.books.specs.Entries.{Reading, difference, settled-at, change-to, Agrees, Balanced}
 use Rattle.books.specs.Known.{Wide}
 use Rattle.books.specs.declared.ledger.Ledger.{Ledger}
 
@@ -28,6 +28,16 @@ Small a contract = (natAbs (holding a contract) ≤ 100000000) × (natAbs (a .mo
 -- an account has room for one more trade in a contract
 abbrev pub Room : List Account → ℕ → ℕ → Type 0
 Room accounts n contract = (natAbs (position accounts n contract) ≤ 90000000) × (natAbs (money accounts n) ≤ 290000000000000000)
+
+-- an account without positions or money
+abbrev pub Empty : Account → Type 0
+Empty a = (a .positions ≡ replicate 32 (pos 0)) × (a .money ≡ pos 0)
+
+-- Whatever the entries are read by: positions and money that were what the trades come to still are, and still sum to
+-- nought.
+abbrev pub Nothing-due : List Account → List Account → Type 0
+Nothing-due before after =
+    ((r : Reading) (ts : List Trade) → Agrees r before ts → Agrees r after ts) × (Balanced before → Balanced after)
 
 -- Whatever the entries are read by: a trade that is booked as its reading says, and entered, leaves positions and money
 -- what the trades come to.

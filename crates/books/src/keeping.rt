@@ -6,9 +6,9 @@ ghost use lib.ListN.{length, getD};
 ghost use Rattle.std.specs.declared.option.Option.the-variants.{Some, None};
 ghost use Rattle.records.specs.Registers.{numbered};
 ghost use Rattle.books.specs.Accounts.{nobody, holding, position, money, entered, enter-at, booked, revalued};
-ghost use Rattle.books.specs.Entries.{Balanced};
+ghost use Rattle.books.specs.Entries.{Reading, Agrees, Balanced};
 ghost use Rattle.books.specs.Known.{Known};
-ghost use Rattle.books.specs.Ledgers.{accounts-of, Sound, Room, Small, Keeps-agreement, Keeps-agreement-at};
+ghost use Rattle.books.specs.Ledgers.{accounts-of, Sound, Room, Small, Empty, Nothing-due, Keeps-agreement, Keeps-agreement-at};
 use crate::ledger::Ledger;
 use records::account::Account;
 use records::holder::Holder;
@@ -74,6 +74,8 @@ impl Ledger {
     pub fn new() -> Ledger
         ensures sound { λ r. ⌜ Sound r ⌝ }
         ensures none { λ r. ⌜ accounts-of r ≡ [] ⌝ }
+        ensures agrees { λ l. ⌜ ((r : Reading) → Agrees r (accounts-of l) []) ⌝ }
+        ensures balanced { λ l. ⌜ Balanced (accounts-of l) ⌝ }
     {
         let terms = AccountTerms {
             participant: 1,
@@ -111,6 +113,7 @@ impl Ledger {
         requires { ⌜ Sound (now self) ⌝ }
         ensures sound { λ _. ⌜ Sound (now (self .exit)) ⌝ }
         ensures admitted { λ r. ⌜ (length (accounts-of (now (self .entry))) < 64 → (r ≡ Some (length (accounts-of (now (self .entry))) + 1)) × (accounts-of (now (self .exit)) ≡ accounts-of (now (self .entry)) ++ account ∷ [])) ⌝ }
+        ensures agrees { λ _. ⌜ (Empty account → Nothing-due (accounts-of (now (self .entry))) (accounts-of (now (self .exit)))) ⌝ }
         ensures full { λ r. ⌜ (64 ≤ length (accounts-of (now (self .entry))) → (r ≡ None) × (now (self .exit) ≡ now (self .entry))) ⌝ }
     {
         let n = self.count;

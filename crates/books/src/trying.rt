@@ -5,7 +5,8 @@ ghost use Prim.Native.Nat.{_<_, _≤_};
 ghost use lib.Dec.{leb};
 ghost use Rattle.records.specs.Ranges.{between, within};
 ghost use Rattle.books.specs.Accounts.{holding, booked, revalued};
-ghost use Rattle.books.specs.Ledgers.{accounts-of, Sound};
+ghost use Rattle.books.specs.Entries.{Balanced};
+ghost use Rattle.books.specs.Ledgers.{accounts-of, Sound, Keeps-agreement, Keeps-agreement-at};
 ghost use Rattle.books.specs.Trying.{roomy, has-room as has-room-in, bookable, every, revaluable};
 use crate::ledger::Ledger;
 use records::account::Account;
@@ -100,6 +101,8 @@ impl Ledger {
         ensures sound { λ _. ⌜ Sound (now (self .exit)) ⌝ }
         ensures answer { λ r. ⌜ r ≡ bookable (now (trade .entry)) buyer seller difference (accounts-of (now (self .entry))) ⌝ }
         ensures taken { λ r. ⌜ (r ≡ true → accounts-of (now (self .exit)) ≡ booked (now (trade .entry)) buyer seller difference (accounts-of (now (self .entry)))) ⌝ }
+        ensures agrees { λ r. ⌜ (r ≡ true → Keeps-agreement (now (trade .entry)) buyer seller difference (accounts-of (now (self .entry))) (accounts-of (now (self .exit)))) ⌝ }
+        ensures balanced { λ _. ⌜ (Balanced (accounts-of (now (self .entry))) → Balanced (accounts-of (now (self .exit)))) ⌝ }
         ensures refused { λ r. ⌜ (r ≡ false → now (self .exit) ≡ now (self .entry)) ⌝ }
     {
         let contract = trade.contract as usize;
@@ -119,6 +122,8 @@ impl Ledger {
         ensures sound { λ _. ⌜ Sound (now (self .exit)) ⌝ }
         ensures answer { λ r. ⌜ r ≡ revaluable contract change (accounts-of (now (self .entry))) ⌝ }
         ensures taken { λ r. ⌜ (r ≡ true → accounts-of (now (self .exit)) ≡ map (revalued contract change) (accounts-of (now (self .entry)))) ⌝ }
+        ensures agrees { λ r. ⌜ (r ≡ true → Keeps-agreement-at contract change (accounts-of (now (self .entry))) (accounts-of (now (self .exit)))) ⌝ }
+        ensures balanced { λ _. ⌜ (Balanced (accounts-of (now (self .entry))) → Balanced (accounts-of (now (self .exit)))) ⌝ }
         ensures refused { λ r. ⌜ (r ≡ false → now (self .exit) ≡ now (self .entry)) ⌝ }
     {
         let n = self.count;

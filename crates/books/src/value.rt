@@ -2,7 +2,7 @@ ghost use mathlib.Core.Path.{_≡_};
 ghost use Prim.Native.Nat.{_*_, _≤_, _<_};
 ghost use lib.IntN.{pos, natAbs, _-ℤ_, _*ℤ_};
 ghost use lib.Signed.{quotZ};
-ghost use Rattle.books.specs.Value.{value as value-of};
+ghost use Rattle.books.specs.Value.{value-at, difference-at, change-at};
 use records::contract::Contract;
 
 fn times(price: i32, w: u32) -> i64
@@ -22,7 +22,7 @@ fn divided(n: i64, r: u32) -> i64
 // The value of a price in a contract: the price times W, divided by R, rounded towards nought.
 pub fn value_in(contract: &Contract, price: i32) -> i64
     requires { ⌜ natAbs price ≤ 2000000 ⌝ }
-    ensures value { λ v. ⌜ v ≡ value-of price (now (contract .entry) .terms .w) (now (contract .entry) .terms .r) ⌝ }
+    ensures value { λ v. ⌜ v ≡ value-at (now (contract .entry)) price ⌝ }
     ensures bound { λ v. ⌜ natAbs v ≤ 1000 * natAbs price ⌝ }
 {
     divided(times(price, contract.terms.w), contract.terms.r)
@@ -38,11 +38,23 @@ fn less(a: i64, b: i64) -> i64
 // The value of a contract's settlement price less the value of another price: what a lot bought at that price gains.
 pub fn difference_in(contract: &Contract, price: i32) -> i64
     requires { ⌜ natAbs price ≤ 2000000 ⌝ }
-    ensures value { λ r. ⌜ r ≡ value-of (now (contract .entry) .terms .settlement) (now (contract .entry) .terms .w) (now (contract .entry) .terms .r) -ℤ value-of price (now (contract .entry) .terms .w) (now (contract .entry) .terms .r) ⌝ }
+    ensures value { λ r. ⌜ r ≡ difference-at (now (contract .entry)) price ⌝ }
     ensures bound { λ r. ⌜ natAbs r ≤ 3000000000 ⌝ }
 {
     less(
         value_in(contract, contract.terms.settlement),
         value_in(contract, price),
+    )
+}
+
+// The value of a new settlement price less the value of a contract's present one: what a lot held gains by it.
+pub fn change_in(contract: &Contract, settlement: i32) -> i64
+    requires { ⌜ natAbs settlement ≤ 1000000 ⌝ }
+    ensures value { λ r. ⌜ r ≡ change-at (now (contract .entry)) settlement ⌝ }
+    ensures bound { λ r. ⌜ natAbs r ≤ 2000000000 ⌝ }
+{
+    less(
+        value_in(contract, settlement),
+        value_in(contract, contract.terms.settlement),
     )
 }

@@ -210,14 +210,16 @@ fn admit(ledger: &mut Ledger, participant: u32, taxpayer: u32) -> Result<(), Any
 }
 
 // Says what is struck, and who takes which month.
-fn announce(rt: &LibcRuntime, struck: &Struck, settlement: i32) -> Result<(), AnyError> {
+fn announce(rt: &LibcRuntime, struck: &Struck, contracts: &[Contract; 2]) -> Result<(), AnyError> {
     let buyer = struck.buying_order;
     let seller = struck.selling_order;
     let quantity = struck.quantity;
     let price = struck.price;
+    let nearby = contracts[0].terms.settlement;
+    let distant = contracts[1].terms.settlement;
     println!(
         rt,
-        "order {buyer} buys and order {seller} sells {quantity} spreads of contracts 1 and 2 at {price}; contract 1 is settled at {settlement}"
+        "order {buyer} buys and order {seller} sells {quantity} spreads of contracts 1 and 2 at {price}; contract 1 is settled at {nearby}, contract 2 at {distant}"
     )?;
     println!(
         rt,
@@ -226,14 +228,19 @@ fn announce(rt: &LibcRuntime, struck: &Struck, settlement: i32) -> Result<(), An
     Ok(())
 }
 
-fn run(rt: &LibcRuntime) -> Result<(), AnyError> {
+// The nearby and the distant month.
+fn months() -> Result<[Contract; 2], AnyError> {
     let Some(nearby) = contract(90, 900, 1_000, 1_100) else {
         return Err("the nearby contract is out of range".into());
     };
     let Some(distant) = contract(180, 950, 1_040, 1_200) else {
         return Err("the distant contract is out of range".into());
     };
-    let contracts = [nearby, distant];
+    Ok([nearby, distant])
+}
+
+// The spread of the two months, admitted by the exchange's rules.
+fn spread_of(contracts: &[Contract; 2]) -> Result<Instrument, AnyError> {
     let Some(spread) = Instrument::new(InstrumentTerms {
         kind: 2,
         first: 1,
@@ -243,16 +250,41 @@ fn run(rt: &LibcRuntime) -> Result<(), AnyError> {
     }) else {
         return Err("the instrument is out of range".into());
     };
-    if !EXCHANGE_RULES.admits(&spread, &contracts) {
+    if !EXCHANGE_RULES.admits(&spread, contracts) {
         return Err("the spread is not admitted".into());
     }
+    Ok(spread)
+}
+
+// Books the trades in two fresh accounts and shows them.
+fn settle(
+    rt: &LibcRuntime,
+    contracts: &[Contract; 2],
+    trades: &TradeRegister,
+) -> Result<(), AnyError>
+    requires { ⌜ Fits (now trades) ⌝ }
+{
+    let mut ledger = Ledger::new();
+    admit(&mut ledger, 11, 501)?;
+    admit(&mut ledger, 12, 502)?;
+    book_all(&mut ledger, contracts, trades)?;
+    println!(
+        rt,
+        "order 1 is account 1's and order 2 account 2's; with both trades booked:"
+    )?;
+    show_accounts(rt, &ledger)
+}
+
+fn run(rt: &LibcRuntime) -> Result<(), AnyError> {
+    let contracts = months()?;
+    let spread = spread_of(&contracts)?;
     let struck = Struck {
         buying_order: 1,
         selling_order: 2,
         quantity: 15,
         price: 12,
     };
-    announce(rt, &struck, nearby.terms.settlement)?;
+    announce(rt, &struck, &contracts)?;
     let mut places = [Trade {
         contract: 0,
         buying_order: 0,
@@ -270,15 +302,7 @@ fn run(rt: &LibcRuntime) -> Result<(), AnyError> {
         &mut trades,
     )?;
     read_back(rt, &trades)?;
-    let mut ledger = Ledger::new();
-    admit(&mut ledger, 11, 501)?;
-    admit(&mut ledger, 12, 502)?;
-    book_all(&mut ledger, &contracts, &trades)?;
-    println!(
-        rt,
-        "order 1 is account 1's and order 2 account 2's; with both trades booked:"
-    )?;
-    show_accounts(rt, &ledger)
+    settle(rt, &contracts, &trades)
 }
 
 fn main(rt: LibcRuntime) -> Result<(), AnyError> {

@@ -27,8 +27,8 @@ returns c =
     let paid = told-through (c .args .contract .now) (c .args .price) (c .fits .price) (c .value-in-2 .result) (c .value-in-2 .ensures .value) 2000000000 (omega arith) (lit< tt) in
     record {
       value =
-          difference-same (toZ w64 (ofZ w64 (c .value-in .result))) (toZ w64 (ofZ w64 (c .value-in-2 .result))) (c .less .result) settled paid (c .less .ensures)
+          difference-same (toZ w64 (ofZ w64 (c .value-in .result))) (toZ w64 (ofZ w64 (c .value-in-2 .result))) (c .less .result) 1000000000 2000000000 settled paid (lit< tt) (c .less .ensures)
           ∙ ap₂ _-ℤ_ (told-same (c .args .contract .now) (c .args .contract .now .terms .settlement) fits (c .value-in .result) (c .value-in .ensures .value) (omega (arith, settlement-small (c .args .contract .now))))
           (told-same (c .args .contract .now) (c .args .price) (c .fits .price) (c .value-in-2 .result) (c .value-in-2 .ensures .value) (c .pre));
-      bound = difference-small (toZ w64 (ofZ w64 (c .value-in .result))) (toZ w64 (ofZ w64 (c .value-in-2 .result))) (c .less .result) settled paid (c .less .ensures);
+      bound = difference-small (toZ w64 (ofZ w64 (c .value-in .result))) (toZ w64 (ofZ w64 (c .value-in-2 .result))) (c .less .result) 1000000000 2000000000 settled paid (lit< tt) (c .less .ensures);
     }

@@ -6,7 +6,8 @@ use lib.ListN.{length, length-set}
 use Rattle.std.proofs.shelf.Lists.{take-more-set, length-take-le}
 use Rattle.std.specs.declared.option.Option.the-variants.{Some}
 use Rattle.books.specs.Known.{Wide}
-use Rattle.books.specs.Ledgers.{accounts-of}
+use Rattle.books.specs.Ledgers.{accounts-of, Nothing-due}
+use Rattle.books.proofs.Beginning.{nothing-due}
 use Rattle.books.proofs.Entering.{wide-more}
 use Rattle.books.proofs.ledger.Ledger.admit.Needs as need
 
@@ -25,5 +26,6 @@ returns c =
         wide = subst Wide (sym left) (wide-more (accounts-of (c .args .self .now)) (c .args .account) (c .pre .wide) long);
       };
       admitted = λ _. (ap (λ (k : ℕ). Some (k + 1)) (sym few), left);
+      agrees = λ empty. subst (Nothing-due (accounts-of (c .args .self .now))) (sym left) (nothing-due (c .args .account) empty (accounts-of (c .args .self .now)));
       full = λ h. absurd (omega (arith, few, h));
     }
