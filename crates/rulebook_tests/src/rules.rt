@@ -229,41 +229,44 @@ fn price<R: InstrumentRule>(
     Some(rule.leg_price(&instrument, leg, price, &terms))
 }
 
+// The price of a leg of the spread of the two contracts, under the exchange's rules.
+fn spread_price(leg: LegPlace, struck: i32, nearby: i32) -> Option<i64> {
+    price(&EXCHANGE_RULES, spread(1, Some(2)), leg, struck, nearby)
+}
+
 #[test]
-fn legs_have_prices() -> Result<(), Fail> {
-    let pair = spread(1, Some(2));
+fn legs_of_a_spread_have_prices() -> Result<(), Fail> {
+    check_eq(spread_price(LegPlace::First, 12, 1_000), Some(1_000))?;
+    check_eq(spread_price(LegPlace::Second, 12, 1_000), Some(1_012))?;
     check_eq(
-        price(&EXCHANGE_RULES, pair, LegPlace::First, 12, 1_000),
-        Some(1_000),
-    )?;
-    check_eq(
-        price(&EXCHANGE_RULES, pair, LegPlace::Second, 12, 1_000),
-        Some(1_012),
-    )?;
-    check_eq(
-        price(&SpreadRule, pair, LegPlace::Second, -12, -1_000),
-        Some(-1_012),
-    )?;
-    check_eq(
-        price(
-            &EXCHANGE_RULES,
-            pair,
-            LegPlace::Second,
-            1_000_000,
-            1_000_000,
-        ),
+        spread_price(LegPlace::Second, 1_000_000, 1_000_000),
         Some(2_000_000),
     )?;
     check_eq(
-        price(
-            &EXCHANGE_RULES,
-            pair,
-            LegPlace::Second,
-            -1_000_000,
-            -1_000_000,
-        ),
+        spread_price(LegPlace::Second, -1_000_000, -1_000_000),
         Some(-2_000_000),
     )?;
+    check_eq(
+        price(
+            &SpreadRule,
+            spread(1, Some(2)),
+            LegPlace::Second,
+            -12,
+            -1_000,
+        ),
+        Some(-1_012),
+    )
+}
+
+// The price of the first leg of any instrument struck at 12 under the exchange's rules.
+fn first_price(terms: InstrumentTerms) -> Option<i64> {
+    price(&EXCHANGE_RULES, terms, LegPlace::First, 12, 1_000)
+}
+
+#[test]
+fn legs_that_are_not_there_read_as_nought() -> Result<(), Fail> {
+    check_eq(first_price(spread(1, None)), Some(0))?;
+    check_eq(first_price(of_kind(3, 1, Some(2), 0, 0)), Some(0))?;
     check_eq(
         price(
             &EXCHANGE_RULES,
@@ -273,11 +276,12 @@ fn legs_have_prices() -> Result<(), Fail> {
             1_000,
         ),
         Some(12),
-    )?;
-    check_eq(
-        price(&EXCHANGE_RULES, spread(1, None), LegPlace::First, 12, 1_000),
-        Some(0),
-    )?;
+    )
+}
+
+#[test]
+fn a_futures_leg_has_the_price_struck() -> Result<(), Fail> {
+    check_eq(first_price(futures(1)), Some(12))?;
     check_eq(
         price(&EXCHANGE_RULES, futures(1), LegPlace::First, -5, 1_000),
         Some(-5),
@@ -285,16 +289,6 @@ fn legs_have_prices() -> Result<(), Fail> {
     check_eq(
         price(&FuturesRule, futures(1), LegPlace::First, 1_000_000, 0),
         Some(1_000_000),
-    )?;
-    check_eq(
-        price(
-            &EXCHANGE_RULES,
-            of_kind(3, 1, Some(2), 0, 0),
-            LegPlace::First,
-            12,
-            1_000,
-        ),
-        Some(0),
     )
 }
 
