@@ -128,16 +128,6 @@ module _ (t : Trade) (buyer seller : ℕ) (difference : ℤ) (accounts : List Ac
       let o = when-money (eqb buyer a) (eqb seller a) q difference in
       omega (arith, ints)
 
-  pub booked-known : (k : ℕ) → Known accounts k → Known (booked t buyer seller difference accounts) k
-  unfolding booked
-  booked-known k h =
-      enter-known seller (t .contract) (negℤ q) (negℤ gain) mid mid-seller mid-wide within k
-      (enter-known buyer (t .contract) q gain accounts b wide within k h)
-
-  pub booked-wide : Wide (booked t buyer seller difference accounts)
-  unfolding booked
-  booked-wide = enter-wide seller (t .contract) (negℤ q) (negℤ gain) mid mid-seller mid-wide within
-
   pub booked-balanced : Balanced accounts → Balanced (booked t buyer seller difference accounts)
   unfolding booked
   booked-balanced h =

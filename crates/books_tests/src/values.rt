@@ -24,9 +24,6 @@ fn terms(settlement: i32, w: u32, r: u32) -> ContractTerms {
 // The value of a price in a contract with this W and R.
 fn value(price: i32, w: u32, r: u32) -> Option<i64> {
     let contract = Contract::new(terms(0, w, r))?;
-    if price < -2_000_000 || price > 2_000_000 {
-        return None;
-    }
     Some(value_in(&contract, price))
 }
 
@@ -40,24 +37,20 @@ fn values_are_rounded_towards_nought() -> Result<(), Fail> {
     check_eq(value(-1, 1, 1_000), Some(0))?;
     check_eq(value(0, 1_000, 1), Some(0))?;
     check_eq(value(2_000_000, 1_000, 1), Some(2_000_000_000))?;
-    check_eq(value(-2_000_000, 1_000, 1), Some(-2_000_000_000))
+    check_eq(value(-2_000_000, 1_000, 1), Some(-2_000_000_000))?;
+    check_eq(value(i32::MAX, 1_000, 1), Some(2_147_483_647_000))?;
+    check_eq(value(i32::MIN, 1_000, 1), Some(-2_147_483_648_000))
 }
 
 // The value of a settlement price less that of another price.
 fn difference(settlement: i32, price: i32, w: u32, r: u32) -> Option<i64> {
     let contract = Contract::new(terms(settlement, w, r))?;
-    if price < -2_000_000 || price > 2_000_000 {
-        return None;
-    }
     Some(difference_in(&contract, price))
 }
 
 // The value of a new settlement price less that of the present one.
 fn change(settlement: i32, new: i32, w: u32, r: u32) -> Option<i64> {
     let contract = Contract::new(terms(settlement, w, r))?;
-    if new < -1_000_000 || new > 1_000_000 {
-        return None;
-    }
     Some(change_in(&contract, new))
 }
 

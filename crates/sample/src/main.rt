@@ -144,9 +144,6 @@ fn book(ledger: &mut Ledger, contracts: &[Contract], trade: &Trade) -> Result<()
     let Some(contract) = record_of(contracts, trade.contract as usize) else {
         return Err("the contract is not listed".into());
     };
-    if trade.price < -2_000_000 || trade.price > 2_000_000 {
-        return Err("the price is out of range".into());
-    }
     let difference = difference_in(&contract, trade.price);
     if !ledger.try_book(
         trade,
