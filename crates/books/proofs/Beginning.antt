@@ -1,10 +1,10 @@
 -- No account, and one account more.
-use Rattle.std.proofs.Common.{◌≡◌, ℕ, zero, suc, List, [], ◌∷◌, ◌++◌, replicate, ℤ, pos, ◌+ℤ◌, unwrap_or, sym, refl, ap, ◌∙◌, subst, arith}
+use Rattle.std.proofs.Common.{◌≡◌, ℕ, zero, suc, List, [], ◌∷◌, ◌++◌, replicate, ℤ, pos, unwrap_or, sym, refl, ap, ◌∙◌, arith}
 use Rattle.std.proofs.lemmas.Int.{ints}
 use Rattle.std.specs.List.{slice_get}
 use Rattle.records.specs.Registers.{numbered}
 use Rattle.records.specs.declared.account.Account.{Account}
-use Rattle.books.specs.Accounts.{nobody, account_at, holding, position, money}
+use Rattle.books.specs.Accounts.{nobody, account_at, holding}
 use Rattle.books.specs.Entries.{Reading, sum_ℤ, Agrees, Balanced}
 use Rattle.books.specs.Ledgers.{Empty, NothingDue}
 use Rattle.books.proofs.Sums.{sum_ℤ_push}

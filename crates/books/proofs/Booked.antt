@@ -1,10 +1,10 @@
 -- A trade booked as the code books it.
-use Rattle.std.proofs.Common.{◌≡◌, ℕ, ◌+◌, ◌*◌, ◌^◌, ◌<◌, ◌≤◌, Bool, true, false, eqb, List, [], ◌∷◌, ◌++◌, ℤ, pos, ◌+ℤ◌, ◌-ℤ◌, ◌*ℤ◌, neg_ℤ, nat_abs, sym, refl, ap, ◌∙◌, subst, ap₂, arith, w64, SFits, to_z, of_z}
+use Rattle.std.proofs.Common.{◌≡◌, ℕ, ◌+◌, ◌^◌, ◌<◌, ◌≤◌, Bool, true, false, eqb, List, [], ◌∷◌, ◌++◌, ℤ, pos, ◌+ℤ◌, ◌*ℤ◌, neg_ℤ, nat_abs, sym, ap, ◌∙◌, subst, ap₂, arith, w64, to_z, of_z}
 use Rattle.std.proofs.lemmas.Int.{ints, to_z-of_z}
 use Rattle.records.specs.declared.account.Account.{Account}
 use Rattle.records.specs.declared.rows.Trade.{Trade}
 use Rattle.books.specs.Accounts.{position, money, enter_at, booked}
-use Rattle.books.specs.Entries.{Reading, when, difference, Agrees, Balanced}
+use Rattle.books.specs.Entries.{when, difference, Agrees, Balanced}
 use Rattle.books.specs.Known.{Known, Wide}
 use Rattle.books.specs.Ledgers.{Room, KeepsAgreement}
 use Rattle.books.proofs.Booking.{enter_position, enter_money, enter_known, booked_agrees, booked_balanced}

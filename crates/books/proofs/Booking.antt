@@ -1,5 +1,5 @@
 -- Booking a trade and entering it keeps positions and money what the trades come to, and keeps the balance.
-use Rattle.std.proofs.Common.{◌≡◌, ℕ, zero, suc, ◌<◌, ◌≤◌, Bool, true, false, eqb, List, [], ◌∷◌, ◌++◌, length, get_or, set, ℤ, pos, ◌+ℤ◌, ◌-ℤ◌, ◌*ℤ◌, neg_ℤ, unwrap_or, sym, refl, ap, ◌∙◌, subst, ⊎_elim, arith}
+use Rattle.std.proofs.Common.{◌≡◌, ℕ, zero, suc, ◌<◌, ◌≤◌, true, eqb, List, [], ◌∷◌, ◌++◌, length, get_or, ℤ, pos, ◌+ℤ◌, ◌-ℤ◌, ◌*ℤ◌, neg_ℤ, unwrap_or, sym, ap, ◌∙◌, subst, ⊎_elim, arith}
 use lib.IntN.{+ℤ_idr}
 use borrow.Author.Differences.{ints}
 use Rattle.std.proofs.lemmas.Option.{slice_get-get_or}

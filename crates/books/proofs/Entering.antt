@@ -1,5 +1,5 @@
 -- The table of accounts as the code reads and writes it.
-use Rattle.std.proofs.Common.{◌≡◌, ℕ, zero, suc, ◌+◌, ◌-◌, ◌<◌, ◌≤◌, List, [], ◌∷◌, ◌++◌, length, get_or, take, set, ℤ, nat_abs, sym, refl, ap, ◌∙◌, subst, ⊎_elim, arith, length-set, length-take, w64, SFits, to_z, of_z}
+use Rattle.std.proofs.Common.{◌≡◌, ℕ, zero, suc, ◌-◌, ◌<◌, ◌≤◌, List, [], ◌∷◌, ◌++◌, length, get_or, take, set, ℤ, nat_abs, sym, ap, ◌∙◌, subst, ⊎_elim, arith, w64, SFits, to_z, of_z}
 use native.Mathlib.Numerals.{unary_clauses}
 use lib.Seq.{take-set-lt}
 use Rattle.std.proofs.lemmas.List.{get_or-take, get_or_default, length-take-le, get_or_append_left, get_or_push, length_push}
@@ -7,7 +7,7 @@ use Rattle.std.proofs.lemmas.Bool.{cases_lt}
 use Rattle.std.proofs.lemmas.Int.{to_z-of_z}
 use Rattle.records.specs.Registers.{replaced}
 use Rattle.records.specs.declared.account.Account.{Account}
-use Rattle.books.specs.Accounts.{nobody, account_at, holding, entered, enter_at}
+use Rattle.books.specs.Accounts.{nobody, account_at, entered, enter_at}
 use Rattle.books.specs.Known.{Known, Wide}
 use Rattle.books.proofs.Holdings.{numbered_or, replaced_set}
 

@@ -1,5 +1,5 @@
 -- One account's positions as the code reads and writes them.
-use Rattle.std.proofs.Common.{◌≡◌, ℕ, zero, suc, ◌-◌, ◌<◌, List, [], ◌∷◌, get_or, set, ℤ, pos, ◌+ℤ◌, unwrap_or, sym, refl, ap, ◌∙◌, arith}
+use Rattle.std.proofs.Common.{◌≡◌, ℕ, zero, suc, ◌-◌, ◌<◌, List, [], ◌∷◌, get_or, set, ℤ, ◌+ℤ◌, unwrap_or, refl, arith}
 use native.Mathlib.Numerals.{unary_clauses}
 use Rattle.std.specs.List.{slice_get}
 use Rattle.records.specs.Registers.{numbered, replaced}

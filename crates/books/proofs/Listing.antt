@@ -1,5 +1,5 @@
 -- The laws at the value of a price.
-use Rattle.std.proofs.Common.{◌≡◌, ℕ, ◌*◌, ◌≤◌, List, ℤ, pos, ◌-ℤ◌, nat_abs, Some, None, Option, refl, ap, arith}
+use Rattle.std.proofs.Common.{◌*◌, ◌≤◌, ℤ, ◌-ℤ◌, nat_abs, Some, None, Option, ap, arith}
 use Rattle.records.specs.Registers.{numbered}
 use Rattle.records.specs.declared.contract.Contract.{Contract}
 use Rattle.books.specs.Listed.{value_if, settlement_if, ListedValuesAreBounded, DifferencesAreTheContract's, ChangesAreTheContract's}

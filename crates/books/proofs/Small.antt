@@ -1,7 +1,7 @@
 -- What the trades come to grows with their number alone.
-use Rattle.std.proofs.Common.{◌≡◌, ℕ, suc, ◌+◌, ◌*◌, ◌≤◌, Bool, true, false, eqb, List, [], ◌∷◌, length, ℤ, pos, ◌+ℤ◌, ◌-ℤ◌, ◌*ℤ◌, nat_abs, sym, subst, suc-mul, arith}
+use Rattle.std.proofs.Common.{◌≡◌, ℕ, suc, ◌+◌, ◌*◌, ◌≤◌, Bool, true, false, eqb, List, [], ◌∷◌, length, ℤ, pos, ◌-ℤ◌, ◌*ℤ◌, nat_abs, sym, subst, suc-mul, arith}
 use borrow.Author.Differences.{ints}
-use Rattle.std.specs.List.{AllByRecursion as All}
+use Rattle.std.specs.List.{AllByRecursion}
 use Rattle.records.specs.declared.rows.Trade.{Trade}
 use Rattle.books.specs.Accounts.{position, money}
 use Rattle.books.specs.Bounds.{Bounded, LawfulTrade, SumsStaySmall}
@@ -18,7 +18,7 @@ brought_within true false q = omega (arith, ints)
 brought_within false true q = omega (arith, ints)
 brought_within false false q = omega (arith, ints)
 
-sum_within : (f : Trade → ℤ) (m : ℕ) → ((t : Trade) → LawfulTrade t → nat_abs (f t) ≤ m) → (ts : List Trade) → All LawfulTrade ts → nat_abs (sum_ℤ f ts) ≤ length ts * m
+sum_within : (f : Trade → ℤ) (m : ℕ) → ((t : Trade) → LawfulTrade t → nat_abs (f t) ≤ m) → (ts : List Trade) → AllByRecursion LawfulTrade ts → nat_abs (sum_ℤ f ts) ≤ length ts * m
 sum_within f m h [] all = omega arith
 sum_within f m h (t ∷ ts) all =
     let here = h t all.0 in

@@ -1,5 +1,5 @@
 -- Products and sums of signed numbers.
-use Rattle.std.proofs.Common.{◌≡◌, ℕ, zero, suc, ◌*◌, ◌<◌, Bool, true, false, eqb, List, [], ◌∷◌, ◌++◌, map, length, get_or, set, ℤ, pos, ◌+ℤ◌, ◌-ℤ◌, ◌*ℤ◌, neg_ℤ, sym, refl, ap, ◌∙◌, ap₂, add-mul, arith}
+use Rattle.std.proofs.Common.{◌≡◌, ℕ, zero, suc, ◌*◌, ◌<◌, Bool, true, false, eqb, List, [], ◌∷◌, ◌++◌, length, get_or, set, ℤ, pos, ◌+ℤ◌, ◌-ℤ◌, ◌*ℤ◌, neg_ℤ, sym, refl, ap, ◌∙◌, ap₂, add-mul, arith}
 use lib.IntN.{*ℤ_comm, +ℤ_idr, +ℤ_idl, +ℤ_invr, zero-*ℤ}
 use borrow.Author.Differences.{ints, up, down, sum_is_lem}
 use Rattle.std.proofs.lemmas.Bool.{eq-eqb, ne_eqb}

@@ -1,5 +1,5 @@
 -- Accounts by number, what each holds, and what booking changes.
-use Rattle.std.specs.Prelude.{ℕ, List, [], ℤ, pos, ◌+ℤ◌, ◌-ℤ◌, ◌*ℤ◌, neg_ℤ, refl}
+use Rattle.std.specs.Prelude.{ℕ, List, [], ℤ, pos, ◌+ℤ◌, ◌*ℤ◌, neg_ℤ, refl}
 use Rattle.std.specs.Option.{unwrap_or}
 use Rattle.records.specs.Registers.{numbered, replaced}
 use Rattle.records.specs.declared.account.Account.{Account}

@@ -1,4 +1,6 @@
 // The clerk's program: a day sheet is read, carried out on one market, and answered line by line.
+#![tactic(auto)]
+
 mod files;
 
 use crate::files::read_sheet;

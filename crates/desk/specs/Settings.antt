@@ -1,9 +1,8 @@
 -- What the set-up entries of a sheet do.
-use Rattle.std.specs.Prelude.{ℕ, Bool, true, false, ◌||◌, List, replicate, Some, None, Ok, Err, Option, Result, nat_lt}
+use Rattle.std.specs.Prelude.{ℕ, Bool, true, false, ◌||◌, replicate, Some, None, Ok, Err, Result, nat_lt}
 use Rattle.records.specs.Registers.{replaced}
 use Rattle.sheet.specs.Faults.{LineFault}
 use Rattle.sheet.specs.declared.fault.Fault.TheVariants.{TwoCentres, OutOfRange}
-use Rattle.sheet.specs.declared.key.Key.{Key}
 use Rattle.sheet.specs.declared.key.Key.TheVariants as key
 use Rattle.sheet.specs.declared.set_up.SetUp.{SetUp}
 use Rattle.sheet.specs.declared.set_up.SetUp.TheVariants as setting

@@ -1,7 +1,7 @@
 -- The law of the grounds for each call.
-use Rattle.std.proofs.Common.{◌≡◌, ℕ, zero, suc, ◌+◌, ◌<◌, ◌≤◌, Bool, true, false, cond, not, ◌&&◌, leb, ◌⊎◌, List, [], ◌∷◌, length, replicate, pos, is_some, Some, None, Decides, Option, Result, sym, refl, ap, ◌∙◌, subst, inl, inr, arith}
+use Rattle.std.proofs.Common.{◌≡◌, ℕ, zero, suc, ◌+◌, ◌<◌, ◌≤◌, Bool, true, false, cond, not, leb, List, [], ◌∷◌, length, replicate, pos, is_some, Some, None, Decides, Option, Result, refl, ap, ◌∙◌, inl, inr, arith}
 use Rattle.std.proofs.lemmas.Bool.{both_ways, leb-true, le-leb, and_parts, and_from}
-use Rattle.std.proofs.lemmas.Bool.Decides.{Decides-and, Decides-not, Decides-like, Decides-at}
+use Rattle.std.proofs.lemmas.Bool.Decides.{Decides-not, Decides-at}
 use Rattle.std.specs.List.{slice_get}
 use Rattle.records.specs.Ranges.{contract_in_range, instrument_in_range, account_in_range}
 use Rattle.records.specs.Registers.{numbered}
@@ -15,9 +15,9 @@ use Rattle.rulebook.specs.Reading.{listing_at}
 use Rattle.rulebook.specs.Rules.{RuleMeaning}
 use Rattle.market.specs.Calls.{decided, is_trading, entry_checks, list_contract, absent_or_listed, may_be_listed, only_if, listable, list_instrument, admit_account, with_phase, resume, suspend}
 use Rattle.market.specs.Grounds.{order, list_contract_call, list_instrument_call, admit_account_call, resume_call, suspend_call, ByTheGrounds, strike_if, first_struck}
-use Rattle.market.specs.Making.{made_if, contract_of, instrument_of, account_of}
+use Rattle.market.specs.Making.{made_if, contract_of, account_of}
 use Rattle.market.specs.States.{State}
-use Rattle.market.specs.Strikes.{Between, AbsentOr, Listed, MayBeListed, ContractInRange, InstrumentInRange, AccountInRange, EntryGrounds, ListContractStrikes, ListInstrumentStrikes, AdmitAccountStrikes, ResumeStrikes, SuspendStrikes}
+use Rattle.market.specs.Strikes.{AbsentOr, Listed, MayBeListed, ContractInRange, AccountInRange, EntryGrounds, ListContractStrikes, ListInstrumentStrikes, AdmitAccountStrikes, ResumeStrikes, SuspendStrikes}
 use Rattle.market.specs.declared.refusal.Refusal.{Refusal}
 use Rattle.market.specs.declared.refusal.Refusal.TheVariants.{WrongPhase}
 use Rattle.market.proofs.Law.{Apart, by_the_grounds}

@@ -1,8 +1,8 @@
 -- The law of the grounds, for any list of checks: the first that strikes is answered.
-use Rattle.std.proofs.Common.{◌≡◌, ℕ, Bool, true, false, ◌⊎◌, List, [], ◌∷◌, is_ok, Some, None, Ok, Err, Decides, Option, Result, sym, refl, ap, ◌∙◌, subst, inl, inr, ⊎_elim, arith}
+use Rattle.std.proofs.Common.{◌≡◌, ℕ, true, false, List, [], ◌∷◌, is_ok, Some, None, Err, Option, Result, sym, refl, ap, ◌∙◌, subst, inl, inr, ⊎_elim, arith}
 use Rattle.std.proofs.lemmas.Bool.{both_ways}
 use Rattle.market.specs.Calls.{decided}
-use Rattle.market.specs.Grounds.{Stands, Before, First, ByTheGrounds, strike_if, first_struck}
+use Rattle.market.specs.Grounds.{Stands, Before, First, ByTheGrounds, first_struck}
 use Rattle.market.specs.Refusals.{ground}
 use Rattle.market.specs.States.{State}
 use Rattle.market.specs.declared.refusal.Refusal.{Refusal}

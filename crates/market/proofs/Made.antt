@@ -1,5 +1,5 @@
 -- The record that code makes of terms is the one that the definitions name.
-use Rattle.std.proofs.Common.{◌≡◌, Bool, true, false, List, replicate, ℤ, pos, is_some, IfSome, Some, None, Option, sym, refl, ap, ◌∙◌, subst}
+use Rattle.std.proofs.Common.{◌≡◌, Bool, true, false, List, replicate, ℤ, pos, is_some, IfSome, Some, None, Option, refl, ap, ◌∙◌, subst}
 use mathlib.Core.Bool.{Bool-set}
 use Rattle.std.proofs.lemmas.Bool.{both_ways}
 use Rattle.records.specs.Ranges.{contract_in_range, instrument_in_range, account_in_range}

@@ -1,5 +1,5 @@
 -- What a market in memory holds, and what a call leaves there.
-use Rattle.std.specs.Prelude.{◌≡◌, ℕ, ◌-◌, length, drop, Result}
+use Rattle.std.specs.Prelude.{◌≡◌, ◌-◌, length, drop, Result}
 use Rattle.books.specs.Ledgers.{accounts_of}
 use Rattle.records.specs.Registers.{listed, unused, SameMemory}
 use Rattle.records.specs.declared.register.Register.{Register}

@@ -1,4 +1,6 @@
 // The market: its calls and its questions.
+#![tactic(auto)]
+
 pub mod beginning;
 pub mod listing;
 pub mod market;

@@ -1,15 +1,15 @@
 -- The tests decide what they are meant for.
-use Rattle.std.proofs.Common.{◌≡◌, ℕ, Bool, true, false, ◌&&◌, eqb, ◌⊎◌, List, ℤ, ◌≤ℤ◌, Some, None, Decides, Option, sym, refl, ap, ◌∙◌, subst, inl, inr, ⊎_elim, arith}
+use Rattle.std.proofs.Common.{◌≡◌, ℕ, false, eqb, ◌⊎◌, List, ℤ, ◌≤ℤ◌, Some, None, Decides, Option, sym, refl, ap, inl, inr, ⊎_elim, arith}
 use lib.Signed.{le_z}
 use Rattle.std.proofs.lemmas.Int.{ints}
-use Rattle.std.proofs.lemmas.Bool.{both_ways, eqb-true, eq-eqb, and_parts, and_from}
-use Rattle.std.proofs.lemmas.Bool.Decides.{Decides-and, Decides-like, Decides-eqb, Decides-at}
+use Rattle.std.proofs.lemmas.Bool.{both_ways, eqb-true, eq-eqb}
+use Rattle.std.proofs.lemmas.Bool.Decides.{Decides-and, Decides-like, Decides-eqb}
 use Rattle.records.specs.Codes.{direction_of}
 use Rattle.records.specs.declared.account.Account.{Account}
 use Rattle.records.specs.declared.codes.Direction.{Direction}
 use Rattle.records.specs.declared.codes.Direction.TheVariants.{Buy, Sell}
 use Rattle.records.specs.declared.rows.OrderRow.{OrderRow}
-use Rattle.orderbook.specs.Opposites.{SidesMeet, participant_of, Names, TermsMeet, Opposite}
+use Rattle.orderbook.specs.Opposites.{participant_of, Opposite}
 use Rattle.orderbook.specs.Tests.{sides_meet, both_are, alike, negotiated, terms_meet, opposite_test}
 
 pub decides_le_ℤ : (a b : ℤ) → Decides (le_z a b) (a ≤ℤ b)

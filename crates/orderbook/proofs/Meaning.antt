@@ -1,6 +1,5 @@
 -- What reading through chooses is the best opposite order, and there is none where it finds none.
-use Rattle.std.proofs.Common.{◌≡◌, ℕ, zero, suc, ◌+◌, ◌<◌, ◌≤◌, Bool, true, false, ◌&&◌, ltb, ◌⊎◌, List, [], ◌∷◌, length, get_or, ℤ, ◌<ℤ◌, Some, None, Option, sym, refl, ap, ◌∙◌, subst, inl, inr, ⊎_elim, arith}
-use lib.Signed.{lt_z}
+use Rattle.std.proofs.Common.{◌≡◌, ℕ, zero, suc, ◌+◌, ◌<◌, true, false, ltb, ◌⊎◌, List, [], ◌∷◌, length, get_or, ℤ, ◌<ℤ◌, Some, None, Option, sym, refl, ap, ◌∙◌, subst, inl, inr, ⊎_elim, arith}
 use Rattle.std.proofs.lemmas.Int.{ints}
 use Rattle.std.proofs.lemmas.Bool.{both_ways, ltb-true, lt-ltb, and_parts, and_from}
 use Rattle.std.specs.List.{slice_get}
@@ -11,8 +10,7 @@ use Rattle.records.specs.declared.codes.Direction.{Direction}
 use Rattle.records.specs.declared.codes.Direction.TheVariants.{Buy, Sell}
 use Rattle.records.specs.declared.rows.OrderRow.{OrderRow}
 use Rattle.orderbook.specs.Best.{blank, better_by, better, candidate, best_below}
-use Rattle.orderbook.specs.Opposites.{Opposite}
-use Rattle.orderbook.specs.Sequence.{BetterPrice, GoesBefore, Candidate, Best, BestOf}
+use Rattle.orderbook.specs.Sequence.{BetterPrice, Candidate, Best}
 use Rattle.orderbook.specs.Tests.{opposite}
 use Rattle.orderbook.proofs.Chosen.{Chosen, is_chosen, not_itself}
 use Rattle.orderbook.proofs.Deciding.{decides_test}

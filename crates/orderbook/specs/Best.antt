@@ -1,5 +1,5 @@
 -- The best opposite order by reading the rows through.
-use Rattle.std.specs.Prelude.{ℕ, zero, suc, Bool, true, false, cond, ◌&&◌, List, ℤ, pos, Some, None, Option, int_lt, nat_lt, slice_index_or}
+use Rattle.std.specs.Prelude.{ℕ, zero, suc, Bool, false, cond, ◌&&◌, List, ℤ, pos, Some, None, Option, int_lt, nat_lt, slice_index_or}
 use Rattle.records.specs.Codes.{direction_of}
 use Rattle.records.specs.declared.account.Account.{Account}
 use Rattle.records.specs.declared.codes.Direction.{Direction}

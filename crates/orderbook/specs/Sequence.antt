@@ -1,5 +1,5 @@
 -- In which sequence an order meets its opposite orders.
-use Rattle.std.specs.Prelude.{◌≡◌, ℕ, ◌<◌, ◌≤◌, ◌⊎◌, List, length, ◌<ℤ◌, Some, None, Option}
+use Rattle.std.specs.Prelude.{◌≡◌, ℕ, ◌<◌, ◌⊎◌, List, ◌<ℤ◌, Some, None, Option}
 use Rattle.records.specs.Registers.{numbered}
 use Rattle.records.specs.declared.account.Account.{Account}
 use Rattle.records.specs.declared.rows.OrderRow.{OrderRow}

@@ -1,5 +1,5 @@
 -- The text that is printed of each answer.
-use Rattle.std.specs.Prelude.{ℕ, List, [], ◌∷◌, ◌++◌, Some, None, codes, decimal, Option}
+use Rattle.std.specs.Prelude.{ℕ, List, [], ◌++◌, Some, None, codes, decimal, Option}
 use Rattle.std.specs.Fmt.{signed_decimal}
 use Rattle.market.specs.Refusals.{ground, words}
 use Rattle.market.specs.declared.overview.Overview.{Overview}

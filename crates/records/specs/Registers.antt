@@ -13,7 +13,7 @@ unused r = drop r.count r.places.now
 
 -- two registers are over the same lent memory, so that what the second one holds is what its host finds there
 abbrev pub SameMemory : {T : Type 0} → Register T → Register T → Type 0
-SameMemory before after = after.places.name ≡ before.places.name
+SameMemory before after = after.places.ghost_name ≡ before.places.ghost_name
 
 -- there are no more records than places, so that the places hold the records and then the unused rest
 abbrev pub Fits : {T : Type 0} → Register T → Type 0

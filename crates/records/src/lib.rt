@@ -1,4 +1,6 @@
 // The market's records, and registers of them in memory lent by the host.
+#![tactic(auto)]
+
 pub mod account;
 pub mod checks;
 pub mod codes;

@@ -1,4 +1,6 @@
 // Edge cases of the records and registers: nought, the largest, one past it, and registers of no place and of one.
+#![tactic(auto)]
+
 #[cfg(test)]
 mod fields;
 #[cfg(test)]

@@ -1,7 +1,7 @@
 -- A leg's price fits the price of a trade.
-use Rattle.std.proofs.Common.{◌≡◌, ℕ, ◌^◌, ◌<◌, ◌≤◌, true, List, ℤ, pos, negsuc, neg_ℤ, is_some, sym, ap, ◌∙◌, subst, arith, w32, w64, SFits, to_z, of_z}
+use Rattle.std.proofs.Common.{◌≡◌, ◌^◌, ◌<◌, true, List, ℤ, pos, negsuc, is_some, sym, ap, ◌∙◌, subst, arith, w32, w64, SFits, to_z, of_z}
 use lib.Signed.{le_z, mag}
-use Rattle.std.proofs.lemmas.Int.{ints, to_z-of_z}
+use Rattle.std.proofs.lemmas.Int.{to_z-of_z}
 use Rattle.std.proofs.lemmas.Bool.{and_parts, leb-true}
 use Rattle.records.specs.Ranges.{within, price_in_range}
 use Rattle.records.specs.declared.contract.Contract.{Contract}

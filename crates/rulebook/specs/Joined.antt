@@ -1,6 +1,5 @@
 -- Two rules as one: the first that owns the code replies.
 use Rattle.std.specs.Prelude.{ℕ, Bool, true, false, ◌||◌, pos}
-use Rattle.records.specs.declared.instrument.Instrument.{Instrument}
 use Rattle.rulebook.specs.Legs.{no_bounds}
 use Rattle.rulebook.specs.Rules.{RuleMeaning}
 use Rattle.rulebook.specs.declared.joined.Owner.{Owner}

@@ -1,8 +1,7 @@
 -- Two rules that keep the laws keep them joined.
-use Rattle.std.specs.Prelude.{◌≡◌, Bool, true, false, List, ℤ, pos, is_some, ◌≢◌, refl}
+use Rattle.std.specs.Prelude.{◌≡◌, Bool, true, false, ℤ, pos, is_some, ◌≢◌}
 use Rattle.std.proofs.lemmas.Bool.{false≢true}
 use Rattle.records.specs.Ranges.{within}
-use Rattle.records.specs.declared.contract.Contract.{Contract}
 use Rattle.rulebook.specs.Joined.{reply, owner, joined}
 use Rattle.rulebook.specs.Legs.{map_legs, leg_at, no_bounds}
 use Rattle.rulebook.specs.Reading.{leg_terms, limits_of, settlement_of}

@@ -1,5 +1,5 @@
 -- The prices of the contracts that are read are in range, and noughts are.
-use Rattle.std.specs.Prelude.{◌≡◌, ℕ, true, List, Some, None, Option, refl}
+use Rattle.std.specs.Prelude.{◌≡◌, true, List, Some, None, Option, refl}
 use Rattle.std.proofs.lemmas.Bool.{and_parts}
 use Rattle.std.specs.Option.{option_map, unwrap_or}
 use Rattle.records.specs.Ranges.{between, bounds_in_order, prices_in_order, price_in_range}
@@ -7,7 +7,7 @@ use Rattle.records.specs.Registers.{numbered}
 use Rattle.records.specs.declared.contract.Contract.{Contract}
 use Rattle.records.specs.declared.terms.ContractTerms.{ContractTerms}
 use Rattle.rulebook.specs.Legs.{Each, map_legs}
-use Rattle.rulebook.specs.Reading.{noughts, terms_at, leg_terms, settlement_of, limits_of}
+use Rattle.rulebook.specs.Reading.{noughts, leg_terms, settlement_of, limits_of}
 use Rattle.rulebook.specs.Rules.{BoundsInRange}
 use Rattle.rulebook.specs.declared.legs.Leg.{Leg}
 use Rattle.rulebook.specs.declared.legs.Legs.{Legs}

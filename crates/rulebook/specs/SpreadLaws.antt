@@ -1,5 +1,5 @@
 -- The spread rule keeps the laws.
-use Rattle.std.specs.Prelude.{◌≡◌, ℕ, true, cond, List, ℤ, is_some, Some, None, Option, ◌==◌, refl}
+use Rattle.std.specs.Prelude.{◌≡◌, ℕ, true, List, ℤ, is_some, Some, None, Option, ◌==◌, refl}
 use Rattle.std.proofs.Common.{sym}
 use Rattle.std.proofs.lemmas.Bool.{and_parts, cond_both, false≢true, eqb-false}
 use Rattle.std.specs.Option.{option_map}
@@ -7,8 +7,8 @@ use Rattle.records.specs.Ranges.{between, absent_or_between, within, price_in_ra
 use Rattle.records.specs.Registers.{numbered}
 use Rattle.records.specs.declared.contract.Contract.{Contract}
 use Rattle.records.specs.declared.instrument.Instrument.{Instrument}
-use Rattle.rulebook.specs.Legs.{Each, map_legs}
-use Rattle.rulebook.specs.Reading.{leg_terms, settlement_of, listing_of, listing_at}
+use Rattle.rulebook.specs.Legs.{Each}
+use Rattle.rulebook.specs.Reading.{settlement_of, listing_of, listing_at}
 use Rattle.rulebook.specs.Rules.{Apart, AllListed, BoundsInRange, LawfulRule}
 use Rattle.rulebook.specs.Spread.{two_months, spread_code, months_of, follows, spread_admitted, spread_legs, nearby_settlement, month_price, spread_price, spread_bounds, spread}
 use Rattle.rulebook.specs.declared.legs.LegPlace.{LegPlace}

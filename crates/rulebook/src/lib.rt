@@ -1,4 +1,6 @@
 // Instrument rules and clearing centres: what the market asks of them, their laws, and those that the exchange has.
+#![tactic(auto)]
+
 pub mod asking;
 pub mod centre;
 pub mod fault;

@@ -1,4 +1,6 @@
 // Edge cases of the instrument rules and clearing centres.
+#![tactic(auto)]
+
 #[cfg(test)]
 mod centres;
 #[cfg(test)]

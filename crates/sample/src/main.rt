@@ -1,3 +1,5 @@
+#![tactic(auto)]
+
 ghost use Rattle.std.specs.Prelude.{◌≡◌, true};
 ghost use Rattle.books.specs.Ledgers.{Sound};
 ghost use Rattle.records.specs.Ranges.{price_in_range};

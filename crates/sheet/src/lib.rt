@@ -1,4 +1,6 @@
 // A day sheet read line by line: what a line says, or why it says nothing.
+#![tactic(auto)]
+
 mod bytes;
 pub mod call;
 pub mod entry;

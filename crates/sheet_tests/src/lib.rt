@@ -1,4 +1,6 @@
 // Edge cases of a sheet's lines: blanks and line ends, numbers at the borders of their kinds, fields in any order, and every fault.
+#![tactic(auto)]
+
 #[cfg(test)]
 mod entries;
 #[cfg(test)]

@@ -13,25 +13,25 @@ fn rest(text: &[u8]) -> &[u8] {
 
 #[test]
 fn a_line_ends_at_a_line_feed(rt: HostRuntime) {
-    assert!(rt; line(b"one\ntwo\n") == b"one");
-    assert!(rt; rest(b"one\ntwo\n") == b"two\n");
-    assert!(rt; line(b"two") == b"two");
+    assert!(rt; line(b"one\ntwo\n") == b"one".as_slice());
+    assert!(rt; rest(b"one\ntwo\n") == b"two\n".as_slice());
+    assert!(rt; line(b"two") == b"two".as_slice());
     assert!(rt; rest(b"two").is_empty());
     assert!(rt; rest(b"two\n").is_empty());
     assert!(rt; line(b"\n\n").is_empty());
-    assert!(rt; rest(b"\n\n") == b"\n");
+    assert!(rt; rest(b"\n\n") == b"\n".as_slice());
     assert!(rt; line(b"").is_empty());
 }
 
 #[test]
 fn one_carriage_return_is_dropped(rt: HostRuntime) {
-    assert!(rt; line(b"one\r\ntwo") == b"one");
-    assert!(rt; line(b"one\r") == b"one");
-    assert!(rt; line(b"one\r\r\n") == b"one\r");
-    assert!(rt; line(b"o\rne\n") == b"o\rne");
+    assert!(rt; line(b"one\r\ntwo") == b"one".as_slice());
+    assert!(rt; line(b"one\r") == b"one".as_slice());
+    assert!(rt; line(b"one\r\r\n") == b"one\r".as_slice());
+    assert!(rt; line(b"o\rne\n") == b"o\rne".as_slice());
     assert!(rt; line(b"\r\n").is_empty());
-    assert!(rt; rest(b"\r\ntwo") == b"two");
-    assert!(rt; line(b"\0\xff\r\n") == b"\0\xff");
+    assert!(rt; rest(b"\r\ntwo") == b"two".as_slice());
+    assert!(rt; line(b"\0\xff\r\n") == b"\0\xff".as_slice());
 }
 
 fn says_nothing(text: &[u8]) -> bool {

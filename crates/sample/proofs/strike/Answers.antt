@@ -15,17 +15,17 @@ there place told legs found e is h = subst (λ l. is_some (leg_at place l) ≡ t
 passed : (p : ℤ) → SFits w32 p → price_in_range p ≡ true → price_in_range (to_z w32 (of_z w32 p)) ≡ true
 passed p fits h = ap price_in_range (to_z-of_z w32 p fits) ∙ h
 
-pub trade-price-first-requires : goal.trade-price-first-requires
-trade-price-first-requires g c =
+pub trade_price-first-requires : goal.trade_price-first-requires
+trade_price-first-requires g c =
     let fits : SFits w32 c.args.struck.now.price = search rules in
     record { leg = there First c.legs.result _ _ c.legs.ensures c.in-One.is refl; price = passed c.args.struck.now.price fits c.requires.price }
 
-pub trade-price-first-requires-in-Two : goal.trade-price-first-requires-in-Two
-trade-price-first-requires-in-Two g c =
+pub trade_price-first-requires-in-Two : goal.trade_price-first-requires-in-Two
+trade_price-first-requires-in-Two g c =
     let fits : SFits w32 c.args.struck.now.price = search rules in
     record { leg = there First c.legs.result _ _ c.legs.ensures c.in-Two.is refl; price = passed c.args.struck.now.price fits c.requires.price }
 
-pub trade-price-second-requires : goal.trade-price-second-requires
-trade-price-second-requires g c =
+pub trade_price-second-requires : goal.trade_price-second-requires
+trade_price-second-requires g c =
     let fits : SFits w32 c.args.struck.now.price = search rules in
     record { leg = there Second c.legs.result _ _ c.legs.ensures c.in-Two.is refl; price = passed c.args.struck.now.price fits c.requires.price }

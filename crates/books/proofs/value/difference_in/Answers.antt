@@ -5,8 +5,8 @@ use Rattle.books.proofs.value.difference_in.Goals as goal
 pub returns : goal.returns
 returns c =
     let fits : SFits w32 c.args.contract.now.terms.settlement = search rules in
-    let small = gained_small c.args.contract.now c.args.contract.now.terms.settlement c.args.price fits c.ranges.price c.gained.result c.gained.type-inv c.gained.ensures.bound in
+    let small = gained_small c.args.contract.now c.args.contract.now.terms.settlement c.args.price fits c.ranges.price c.gained.result c.gained.type_inv c.gained.ensures.bound in
     record {
-      value = gained_is c.args.contract.now c.args.contract.now.terms.settlement c.args.price fits c.ranges.price c.gained.result c.gained.type-inv c.gained.ensures.value;
+      value = gained_is c.args.contract.now c.args.contract.now.terms.settlement c.args.price fits c.ranges.price c.gained.result c.gained.type_inv c.gained.ensures.value;
       bound = λ h. omega (arith, small, h, settlement_small c.args.contract.now);
     }

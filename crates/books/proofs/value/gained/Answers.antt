@@ -4,19 +4,19 @@ use Rattle.books.proofs.value.gained.Goals as goal
 
 pub less-requires : goal.less-requires
 less-requires c = (
-  told_fits c.args.contract.now c.args.to c.ranges.to c.value-in.result c.value-in.ensures.value,
-  told_fits c.args.contract.now c.args.from c.ranges.from c.value-in-2.result c.value-in-2.ensures.value,
+  told_fits c.args.contract.now c.args.to c.ranges.to c.value_in.result c.value_in.ensures.value,
+  told_fits c.args.contract.now c.args.from c.ranges.from c.value_in-2.result c.value_in-2.ensures.value,
 )
 
 pub returns : goal.returns
 returns c =
-    let to = told_bounded c.args.contract.now c.args.to c.ranges.to c.value-in.result c.value-in.ensures.value in
-    let from = told_bounded c.args.contract.now c.args.from c.ranges.from c.value-in-2.result c.value-in-2.ensures.value in
+    let to = told_bounded c.args.contract.now c.args.to c.ranges.to c.value_in.result c.value_in.ensures.value in
+    let from = told_bounded c.args.contract.now c.args.from c.ranges.from c.value_in-2.result c.value_in-2.ensures.value in
     let fit : 1000 * nat_abs c.args.to + 1000 * nat_abs c.args.from < 2 ^ 63 = omega (arith, fits_small c.args.to c.ranges.to, fits_small c.args.from c.ranges.from) in
     record {
       value =
-          difference_same (to_z w64 (of_z w64 c.value-in.result)) (to_z w64 (of_z w64 c.value-in-2.result)) c.less.result (1000 * nat_abs c.args.to) (1000 * nat_abs c.args.from) to from fit c.less.ensures
-          ∙ ap₂ ◌-ℤ◌ (told_same c.args.contract.now c.args.to c.ranges.to c.value-in.result c.value-in.ensures.value)
-          (told_same c.args.contract.now c.args.from c.ranges.from c.value-in-2.result c.value-in-2.ensures.value);
-      bound = difference_small (to_z w64 (of_z w64 c.value-in.result)) (to_z w64 (of_z w64 c.value-in-2.result)) c.less.result (1000 * nat_abs c.args.to) (1000 * nat_abs c.args.from) to from fit c.less.ensures;
+          difference_same (to_z w64 (of_z w64 c.value_in.result)) (to_z w64 (of_z w64 c.value_in-2.result)) c.less.result (1000 * nat_abs c.args.to) (1000 * nat_abs c.args.from) to from fit c.less.ensures
+          ∙ ap₂ ◌-ℤ◌ (told_same c.args.contract.now c.args.to c.ranges.to c.value_in.result c.value_in.ensures.value)
+          (told_same c.args.contract.now c.args.from c.ranges.from c.value_in-2.result c.value_in-2.ensures.value);
+      bound = difference_small (to_z w64 (of_z w64 c.value_in.result)) (to_z w64 (of_z w64 c.value_in-2.result)) c.less.result (1000 * nat_abs c.args.to) (1000 * nat_abs c.args.from) to from fit c.less.ensures;
     }

@@ -11,6 +11,6 @@ divided-requires c =
 pub returns : goal.returns
 returns c =
     record {
-      value = result_is c.args.contract.now c.args.price c.ranges.price c.times.result c.times.ensures c.divided.result c.divided.type-inv c.divided.ensures;
-      bound = result_bounded c.args.contract.now c.args.price c.ranges.price c.times.result c.times.ensures c.divided.result c.divided.type-inv c.divided.ensures;
+      value = result_is c.args.contract.now c.args.price c.ranges.price c.times.result c.times.ensures c.divided.result c.divided.type_inv c.divided.ensures;
+      bound = result_bounded c.args.contract.now c.args.price c.ranges.price c.times.result c.times.ensures c.divided.result c.divided.type_inv c.divided.ensures;
     }

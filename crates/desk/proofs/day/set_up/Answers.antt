@@ -1,4 +1,4 @@
-use Rattle.std.proofs.Common.{◌≡◌, ℕ, suc, ◌+◌, ◌-◌, ◌<◌, ◌≤◌, Bool, true, false, ◌&&◌, eqb, List, [], ◌++◌, length, string_bytes, Option, sym, refl, ap, ◌∙◌, subst, arith}
+use Rattle.std.proofs.Common.{◌≡◌, ℕ, ◌+◌, ◌-◌, ◌<◌, Bool, false, ◌&&◌, eqb, List, ◌++◌, length, string_bytes, Option, sym, refl, ap, ◌∙◌, subst, arith}
 use Rattle.std.proofs.lemmas.Bool.{eqb-true}
 use Rattle.std.proofs.lemmas.Bool.Decides.{nat_tests}
 use Rattle.sheet.specs.Entries.{line_read}
@@ -8,7 +8,7 @@ use Rattle.desk.specs.Settings.{unset}
 use Rattle.desk.specs.declared.host.Host.{Host}
 use Rattle.desk.proofs.Turns.{setting_turn, setting_over, setting_end}
 use Rattle.desk.proofs.day.set_up.Goals as goal
-use Rattle.desk.proofs.day.set_up.Goals.{then-all-read, else-all-read, else-loop-i-test, then-loop-i-test+then-is-empty, then-loop-i-test+else-is-empty+in-ok-next+in-default}
+use Rattle.desk.proofs.day.set_up.Goals.{then-all_read, else-all_read, else-loop-i-test, then-loop-i-test+then-is_empty, then-loop-i-test+else-is_empty+in_ok-next+in_default}
 
 pub loop-i-init : goal.loop-i-init
 loop-i-init c =
@@ -26,17 +26,17 @@ loop-i-preserved c =
     let text = c.args.text.now in
     let rest = c.loop-i.rest.now in
     let i = c.loop-i.i in
-    let line = c.next-line.result.0.now in
+    let line = c.next_line.result.0.now in
     let st = line_settled c.loop-i.host (line_read line) in
     let before = string_bytes c.loop-i.printed in
     let after = string_bytes c.settle.new.printed in
-    let told = subst (λ (o : Option (Host × Bool)). Settles (i + 1) st c.loop-i.host before after o) c.in-Some.is c.in-ok-next.ensures in
-    let filled : eqb (length rest) 0 ≡ false = sym c.if-is-empty.ensures in
+    let told = subst (λ (o : Option (Host × Bool)). Settles (i + 1) st c.loop-i.host before after o) c.in-Some.is c.in_ok-next.ensures in
+    let filled : eqb (length rest) 0 ≡ false = sym c.if-is_empty.ensures in
     let some : 0 < length rest = grind (arith, nat_tests) in
-    let shorter = c.next-line.ensures.shorter some in
-    let both : c.if-all-read.all_read ≡ (c.loop-i.all_read && c.in-Some.read) = elim c.if-all-read.branch [ then-all-read w ↦ grind arith | else-all-read w ↦ grind arith ] in (
-      setting_turn _ _ before after c.loop-i.all_read _ c.in-Some.read c.loop-i.host c.in-Some.next (i + 1) _ (length text - i) (length text - (i + 1)) rest line c.next-line.result.1.now
-          some (omega arith) c.next-line.ensures.line c.next-line.ensures.rest told.0 told.1 told.2 told.3 both refl c.loop-i.invariant.0,
+    let shorter = c.next_line.ensures.shorter some in
+    let both : c.if-all_read.all_read ≡ (c.loop-i.all_read && c.in-Some.read) = elim c.if-all_read.branch [ then-all_read w ↦ grind arith | else-all_read w ↦ grind arith ] in (
+      setting_turn _ _ before after c.loop-i.all_read _ c.in-Some.read c.loop-i.host c.in-Some.next (i + 1) _ (length text - i) (length text - (i + 1)) rest line c.next_line.result.1.now
+          some (omega arith) c.next_line.ensures.line c.next_line.ensures.rest told.0 told.1 told.2 told.3 both refl c.loop-i.invariant.0,
       refl,
       omega (arith, shorter, c.loop-i.invariant.2),
     )
@@ -59,16 +59,16 @@ returns c =
         | else-loop-i-test v ↦
             at_end (string_bytes c.loop-i.printed) _ (ap string_bytes v.printed-is)
             (setting_end W w _ a h (i + 1) (length text - i) rest (omega (arith, v.loop-i-test.false, c.loop-i.invariant.2)) c.loop-i.invariant.0)
-        | then-loop-i-test+then-is-empty v ↦
+        | then-loop-i-test+then-is_empty v ↦
             at_end (string_bytes c.loop-i.printed) _ (ap string_bytes v.printed-is)
-            (setting_end W w _ a h (i + 1) (length text - i) rest (eqb-true (length rest) 0 (sym v.if-is-empty.ensures)) c.loop-i.invariant.0)
-        | then-loop-i-test+else-is-empty+in-ok-next+in-default v ↦
-            (let line = v.next-line.result.0.now in
-            let told = subst (λ (o : Option (Host × Bool)). Settles (i + 1) (line_settled h (line_read line)) h (string_bytes c.loop-i.printed) (string_bytes v.settle.new.printed) o) v.in-default.is v.in-ok-next.ensures in
-            let filled : eqb (length rest) 0 ≡ false = sym v.if-is-empty.ensures in
+            (setting_end W w _ a h (i + 1) (length text - i) rest (eqb-true (length rest) 0 (sym v.if-is_empty.ensures)) c.loop-i.invariant.0)
+        | then-loop-i-test+else-is_empty+in_ok-next+in_default v ↦
+            (let line = v.next_line.result.0.now in
+            let told = subst (λ (o : Option (Host × Bool)). Settles (i + 1) (line_settled h (line_read line)) h (string_bytes c.loop-i.printed) (string_bytes v.settle.new.printed) o) v.in_default.is v.in_ok-next.ensures in
+            let filled : eqb (length rest) 0 ≡ false = sym v.if-is_empty.ensures in
             let some : 0 < length rest = grind (arith, nat_tests) in
             at_end (string_bytes c.loop-i.printed) _ (ap string_bytes v.printed-is ∙ told.1)
-            (setting_over W w _ a h (i + 1) (length text - i) rest line some (omega (arith, v.loop-i-test.true, c.loop-i.invariant.2)) v.next-line.ensures.line told.0 c.loop-i.invariant.0))
+            (setting_over W w _ a h (i + 1) (length text - i) rest line some (omega (arith, v.loop-i-test.true, c.loop-i.invariant.2)) v.next_line.ensures.line told.0 c.loop-i.invariant.0))
       ],
       omega (arith, c.loop-i.invariant.1, c.loop-i.invariant.2),
     )

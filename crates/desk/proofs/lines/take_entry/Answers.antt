@@ -1,4 +1,4 @@
-use Rattle.std.proofs.Common.{ℕ, List, sym, ap, ◌∙◌, rules}
+use Rattle.std.proofs.Common.{ℕ, List, sym, ap, ◌∙◌}
 use Rattle.market.specs.Views.{view}
 use Rattle.printing.specs.declared.reply.Reply.{Reply}
 use Rattle.sheet.specs.Naming.{question_name}
@@ -9,17 +9,10 @@ use Rattle.desk.specs.declared.taken.Taken.{Taken}
 use Rattle.desk.specs.declared.taken.Taken.TheVariants.{Replied}
 use Rattle.desk.proofs.lines.take_entry.Goals as goal
 
-pub returns-in-Question : goal.returns-in-Question
-returns-in-Question g c =
+pub returns-in-Question-clause-taken : goal.returns-in-Question-clause-taken
+returns-in-Question-clause-taken g c =
     let s = view c.args.market.now in
     let F : Name → Reply → Taken (List ℕ) = λ n r. Replied n r in
-    record {
-      taken =
-          ap (λ (n : Name). F n c.ask.result) c.name-in-Question.ensures
-          ∙ ap (F (question_name c.in-Question.question)) c.ask.ensures
-          ∙ ap (λ (e : Entry). entry_taken e s) (sym c.in-Question.is);
-      state = search rules;
-      orders = search rules;
-      trades = search rules;
-      unchanged = search rules;
-    }
+    ap (λ (n : Name). F n c.ask.result) c.name-in-Question.ensures
+    ∙ ap (F (question_name c.in-Question.question)) c.ask.ensures
+    ∙ ap (λ (e : Entry). entry_taken e s) (sym c.in-Question.is)

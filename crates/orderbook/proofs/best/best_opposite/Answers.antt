@@ -3,8 +3,8 @@ use Rattle.orderbook.proofs.Chosen.{is_below}
 use Rattle.orderbook.proofs.Meaning.{found, not_found}
 use Rattle.orderbook.proofs.best.best_opposite.Goals as goal
 
-pub overflow-add-result : goal.overflow-add-result
-overflow-add-result c =
+pub overflow_add-result : goal.overflow_add-result
+overflow_add-result c =
     let within : c.in-Some.at < length c.args.rows.now =
     is_below c.args.accounts.now c.args.me.now c.args.rows.now (length c.args.rows.now) c.in-Some.at (sym c.in-Some.ensures) in
     search rules

@@ -3,4 +3,4 @@ use Rattle.printing.proofs.faults.line_of_fault.Goals as goal
 
 pub returns : goal.returns
 returns c =
-    subst (λ (w : List ℕ). IfOk c.format.result (λ text. string_bytes text ≡ decimal c.args.number ++ (codes ": unreadable: " ++ (w ++ codes "\n")))) c.in-ok-words.ensures c.format.ensures.ok
+    subst (λ (w : List ℕ). IfOk c.format.result (λ text. string_bytes text ≡ decimal c.args.number ++ (codes ": unreadable: " ++ (w ++ codes "\n")))) c.in_ok-words.ensures c.format.ensures.ok

@@ -5,6 +5,6 @@ use Rattle.rulebook.proofs.asking.bounds_now.Goals as goal
 pub returns : goal.returns
 returns g c =
     record {
-      value = c.told-bounds.ensures;
-      range = subst BoundsInRange (sym c.told-bounds.ensures) ((g.met.R.InstrumentRule.lawful c.args.rule.now).bounded c.args.instrument.now c.args.contracts.now);
+      value = c.told_bounds.ensures;
+      range = subst BoundsInRange (sym c.told_bounds.ensures) ((g.met.R.InstrumentRule.lawful c.args.rule.now).bounded c.args.instrument.now c.args.contracts.now);
     }

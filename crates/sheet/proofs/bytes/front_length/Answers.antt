@@ -8,8 +8,8 @@ loop-n-preserved c =
     let e : passes c.args.stop (get_or c.args.text.now c.loop-n.n 0) ≡ true = cc in
     (omega arith, omega (arith, prefix_len-drop_yes (passes c.args.stop) c.args.text.now c.loop-n.n 0 (omega arith) e))
 
-pub returns-else-is-passed-by : goal.returns-else-is-passed-by
-returns-else-is-passed-by c =
+pub returns-else-is_passed_by : goal.returns-else-is_passed_by
+returns-else-is_passed_by c =
     let e : passes c.args.stop (get_or c.args.text.now c.loop-n.n 0) ≡ false = cc in
     record {
       value = omega (arith, prefix_len-drop_no (passes c.args.stop) c.args.text.now c.loop-n.n 0 (omega arith) e);

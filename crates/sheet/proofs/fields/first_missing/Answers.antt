@@ -5,8 +5,8 @@ use Rattle.sheet.specs.declared.key.Key.TheVariants.{Orders}
 use Rattle.sheet.proofs.Finding.{found, passed, none_left}
 use Rattle.sheet.proofs.fields.first_missing.Goals as goal
 
-pub returns-then-is-missing : goal.returns-then-is-missing
-returns-then-is-missing c =
+pub returns-then-is_missing : goal.returns-then-is_missing
+returns-then-is_missing c =
     let test : Key → Bool = missing c.args.values.now in
     let e : test (get_or c.args.keys.now c.loop-key.key-index Orders) ≡ true = cc in
     sym (found test c.args.keys.now c.loop-key.key-index Orders (omega arith) e) ∙ c.loop-key.invariant

@@ -6,8 +6,8 @@ use Rattle.sheet.specs.declared.key.Key.TheVariants.{Orders}
 use Rattle.sheet.proofs.Finding.{found, passed, none_left}
 use Rattle.sheet.proofs.keys.key_among.Goals as goal
 
-pub returns-then-is-same : goal.returns-then-is-same
-returns-then-is-same c =
+pub returns-then-is_same : goal.returns-then-is_same
+returns-then-is_same c =
     let test : Key → Bool = λ key. bytes_eq (key_name key) c.args.text.now in
     let e : test (get_or c.args.keys.now c.loop-key.key-index Orders) ≡ true = cc in
     sym (found test c.args.keys.now c.loop-key.key-index Orders (omega arith) e) ∙ c.loop-key.invariant

@@ -7,7 +7,7 @@ use Rattle.sheet.proofs.lines.next_line.Goals as goal
 
 pub returns : goal.returns
 returns c =
-    let left : c.without-first.result.now ≡ after_line c.args.text.now = cc in
+    let left : c.without_first.result.now ≡ after_line c.args.text.now = cc in
     record {
       line = search rules;
       rest = left;

@@ -14,7 +14,7 @@ returns-in-Some c =
 
 pub loop-name-preserved : goal.loop-name-preserved
 loop-name-preserved c =
-    let t = c.in-default.ensures in
+    let t = c.in_default.ensures in
     let e : after (words (title (get_or c.args.names.now c.loop-name.name-index Memory))) (words c.args.line.now) ≡ None = cc in
     sym (miss c.args.names.now c.loop-name.name-index Memory (words c.args.line.now) (omega arith) e) ∙ c.loop-name.invariant
 

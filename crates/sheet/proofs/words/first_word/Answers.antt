@@ -5,16 +5,16 @@ use Rattle.sheet.specs.Bytes.{behind, reach}
 use Rattle.sheet.proofs.Cutting.{first, none}
 use Rattle.sheet.proofs.words.first_word.Goals as goal
 
-pub returns-then-is-empty : goal.returns-then-is-empty
-returns-then-is-empty c =
+pub returns-then-is_empty : goal.returns-then-is_empty
+returns-then-is_empty c =
     record {
-      value = none c.args.line.now (sym c.cut.ensures.behind ∙ nil_from_length c.cut.result.1.now (true-eqb _ _ c.if-is-empty.ensures));
+      value = none c.args.line.now (sym c.cut.ensures.behind ∙ nil_from_length c.cut.result.1.now (true-eqb _ _ c.if-is_empty.ensures));
       shorter = tt;
     }
 
 pub returns : goal.returns
 returns c =
-    let long : 0 < length (behind AtInk c.args.line.now) = rw (← c.cut.ensures.behind) (omega (arith, false-eqb _ _ c.if-is-empty.ensures)) in
+    let long : 0 < length (behind AtInk c.args.line.now) = rw (← c.cut.ensures.behind) (omega (arith, false-eqb _ _ c.if-is_empty.ensures)) in
     let f = first c.args.line.now long in
     let w : c.cut-2.result.1.now ≡ behind AtBlank (behind AtInk c.args.line.now) = cc in
     record {

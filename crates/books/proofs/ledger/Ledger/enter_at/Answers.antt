@@ -1,4 +1,4 @@
-use Rattle.std.proofs.Common.{◌≡◌, ◌-◌, ◌≤◌, length, nat_abs, sym, ap, ◌∙◌, subst, arith, length-set}
+use Rattle.std.proofs.Common.{◌-◌, ◌≤◌, length, nat_abs, sym, ◌∙◌, subst, arith, length-set}
 use Rattle.records.specs.declared.account.Account.{Account}
 use Rattle.books.specs.Accounts.{holding}
 use Rattle.books.specs.Known.{Wide}

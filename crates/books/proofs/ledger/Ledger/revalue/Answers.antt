@@ -1,4 +1,4 @@
-use Rattle.std.proofs.Common.{◌≡◌, ℕ, ◌<◌, ◌≤◌, List, map, length, get_or, take, ℤ, sym, ap, ◌∙◌, subst, arith, w64, to_z, of_z}
+use Rattle.std.proofs.Common.{ℕ, ◌<◌, ◌≤◌, List, map, length, get_or, ℤ, sym, ap, ◌∙◌, subst, arith, w64, to_z, of_z}
 use Rattle.std.proofs.lemmas.Int.{to_z-of_z}
 use Rattle.records.specs.declared.account.Account.{Account}
 use Rattle.books.specs.Accounts.{nobody, revalued}
@@ -10,8 +10,8 @@ use Rattle.books.proofs.Revalued.{lent, given_back, long_back}
 use Rattle.books.proofs.Revaluing.{revalued_agrees, revalued_balanced, revalued_wide}
 use Rattle.books.proofs.ledger.Ledger.revalue.Goals as goal
 
-pub revalue-all-requires : goal.revalue-all-requires
-revalue-all-requires c =
+pub revalue_all-requires : goal.revalue_all-requires
+revalue_all-requires c =
     record {
       contract = c.requires.contract;
       change = passed c.args.change 2000000000 c.ranges.change c.requires.change;
@@ -24,12 +24,12 @@ returns c =
     let few : c.args.self.now.count ≤ length c.args.self.now.accounts = omega (arith, c.requires.sound.few, c.requires.sound.long) in
     let same = to_z-of_z w64 c.args.change c.ranges.change in
     let left =
-    given_back (revalued c.args.contract (to_z w64 (of_z w64 c.args.change))) c.args.self.now.accounts c.args.self.now.count c.revalue-all.new.accounts _ few c.revalue-all.ensures
+    given_back (revalued c.args.contract (to_z w64 (of_z w64 c.args.change))) c.args.self.now.accounts c.args.self.now.count c.revalue_all.new.accounts _ few c.revalue_all.ensures
     ∙ ap (λ (z : ℤ). map (revalued c.args.contract z) (accounts_of c.args.self.now)) same in
     record {
       sound = record {
         few = c.requires.sound.few;
-        long = long_back (revalued c.args.contract (to_z w64 (of_z w64 c.args.change))) c.args.self.now.accounts c.args.self.now.count c.revalue-all.new.accounts c.revalue-all.ensures ∙ c.requires.sound.long;
+        long = long_back (revalued c.args.contract (to_z w64 (of_z w64 c.args.change))) c.args.self.now.accounts c.args.self.now.count c.revalue_all.new.accounts c.revalue_all.ensures ∙ c.requires.sound.long;
         wide = subst Wide (sym left) (revalued_wide c.args.contract c.args.change accounts c.requires.sound.wide);
       };
       revalued = left;

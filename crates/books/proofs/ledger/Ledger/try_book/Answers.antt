@@ -1,4 +1,4 @@
-use Rattle.std.proofs.Common.{leb, ℤ, sym, ◌∙◌, subst, w64, to_z, of_z, rules}
+use Rattle.std.proofs.Common.{leb, ℤ, sym, subst, w64, to_z, of_z, rules}
 use Rattle.std.proofs.lemmas.Int.{to_z-of_z}
 use Rattle.std.proofs.lemmas.Bool.{and_parts, leb-true, false≢true}
 use Rattle.records.specs.Ranges.{within}
@@ -8,9 +8,9 @@ use Rattle.books.proofs.ledger.Ledger.try_book.Goals as goal
 
 pub book-requires : goal.book-requires
 book-requires c =
-    let buyer = is_roomy (accounts_of c.args.self.now) c.args.buyer c.args.trade.now.contract (sym c.if-not-has-room.ensures) in
-    let seller = is_roomy (accounts_of c.args.self.now) c.args.seller c.args.trade.now.contract (sym c.if-not-has-room-2.ensures) in
-    let small = and_parts (leb c.args.trade.now.quantity 10000) (within 3000000000 (to_z w64 (of_z w64 c.args.difference))) (sym c.if-not-is-small.ensures) in
+    let buyer = is_roomy (accounts_of c.args.self.now) c.args.buyer c.args.trade.now.contract (sym c.if-not-has_room.ensures) in
+    let seller = is_roomy (accounts_of c.args.self.now) c.args.seller c.args.trade.now.contract (sym c.if-not-has_room-2.ensures) in
+    let small = and_parts (leb c.args.trade.now.quantity 10000) (within 3000000000 (to_z w64 (of_z w64 c.args.difference))) (sym c.if-not-is_small.ensures) in
     record {
       sound = c.requires;
       accounts = (buyer.account, seller.account);

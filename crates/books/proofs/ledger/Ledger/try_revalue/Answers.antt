@@ -12,10 +12,10 @@ pub revalue-requires : goal.revalue-requires
 revalue-requires c =
     record {
       sound = c.requires;
-      contract = between_contract c.args.contract (sym c.if-not-is-contract.ensures);
-      change = within_change (to_z w64 (of_z w64 c.args.change)) (sym c.if-not-is-small-change.ensures);
+      contract = between_contract c.args.contract (sym c.if-not-is_contract.ensures);
+      change = within_change (to_z w64 (of_z w64 c.args.change)) (sym c.if-not-is_small_change.ensures);
       small = λ k h. roomy_small (get_or (accounts_of c.args.self.now) k nobody) c.args.contract
-          (every_at (roomy c.args.contract) (accounts_of c.args.self.now) (ap (every (roomy c.args.contract)) (sym (lent c.args.self.now.accounts c.args.self.now.count)) ∙ sym c.if-not-are-all-roomy.ensures) k nobody h);
+          (every_at (roomy c.args.contract) (accounts_of c.args.self.now) (ap (every (roomy c.args.contract)) (sym (lent c.args.self.now.accounts c.args.self.now.count)) ∙ sym c.if-not-are_all_roomy.ensures) k nobody h);
     }
 
 pub returns : goal.returns

@@ -1,4 +1,4 @@
-use Rattle.std.proofs.Common.{◌≡◌, Option, subst}
+use Rattle.std.proofs.Common.{Option, subst}
 use Rattle.records.specs.declared.account.Account.{Account}
 use Rattle.market.specs.Calls.{enter_account}
 use Rattle.market.specs.Views.{view, HasOutcome}

@@ -1,4 +1,4 @@
-use Rattle.std.proofs.Common.{◌≡◌, Option, subst}
+use Rattle.std.proofs.Common.{Option, subst}
 use Rattle.records.specs.declared.contract.Contract.{Contract}
 use Rattle.market.specs.Calls.{enter_contract}
 use Rattle.market.specs.Views.{view, HasOutcome}

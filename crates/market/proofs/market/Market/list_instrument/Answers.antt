@@ -1,4 +1,4 @@
-use Rattle.std.proofs.Common.{◌≡◌, List, Option, ap, ◌∙◌, subst}
+use Rattle.std.proofs.Common.{List, Option, ap, ◌∙◌, subst}
 use Rattle.records.specs.declared.contract.Contract.{Contract}
 use Rattle.records.specs.declared.instrument.Instrument.{Instrument}
 use Rattle.market.specs.Calls.{enter_instrument, listable}

@@ -9,7 +9,7 @@ returns g c =
     let n = c.args.self.now.count in
     let few : length (entered c.args.self.now) ≡ n = length-take-le n places (omega (arith, c.args.self.now.few, c.args.self.now.long)) in
     let room : n < length places = omega (arith, c.args.self.now.long, c.if-n.false) in
-    let next : c.number-at-number.result ≡ n + 1 = c.number-at-number.ensures in
+    let next : c.number_at-number.result ≡ n + 1 = c.number_at-number.ensures in
     record {
       more = λ _. (
         ap (λ (k : ℕ). Some k) (next ∙ ap (λ (k : ℕ). k + 1) (sym few)),
