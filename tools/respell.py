@@ -3,7 +3,7 @@
 
     python3 tools/respell.py [--list]
 
-Run once, at the top of a tree that /opt/rattle/port/port.py has turned. A name of specs/ or proofs/ that is written with a
+Run once, at the top of a tree that the kit's script port.py has turned. A name of specs/ or proofs/ that is written with a
 dash is respelled wherever antt reads it: in specs/, in proofs/, and in the clauses and ghost lines of src/. Texts,
 comments, the names of goals and what Rattle makes itself stay as they are. --list prints the names and changes nothing.
 """

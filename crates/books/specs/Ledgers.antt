@@ -22,6 +22,7 @@ Long l = length l.accounts ≡ 64
 abbrev pub WideAccounts : Ledger → Type 0
 WideAccounts l = Wide (accounts_of l)
 
+-- there are no more accounts than places, and each has a position in every contract
 pub record Sound (l : Ledger) : Type 0 where
   pub few : l.count ≤ 64
   pub long : length l.accounts ≡ 64
