@@ -9,9 +9,17 @@ use Rattle.books.specs.Entries.{Reading, sum_ℤ, Agrees, Balanced}
 use Rattle.books.specs.Ledgers.{Empty, NothingDue}
 use Rattle.books.proofs.Sums.{sum_ℤ_push}
 
-nobody_holds : (contract : ℕ) → holding nobody contract ≡ pos 0
-nobody_holds zero = refl
-nobody_holds (suc k) = refl
+noughts : (n k : ℕ) → unwrap_or (slice_get (replicate n (pos 0)) k) (pos 0) ≡ pos 0
+noughts zero k = refl
+noughts (suc n) zero = refl
+noughts (suc n) (suc k) = noughts n k
+
+noughts_at : (n contract : ℕ) → unwrap_or (numbered (replicate n (pos 0)) contract) (pos 0) ≡ pos 0
+noughts_at n zero = refl
+noughts_at n (suc k) = noughts n k
+
+pub nobody_holds : (contract : ℕ) → holding nobody contract ≡ pos 0
+nobody_holds contract = noughts_at 32 contract
 
 none_at : (a : ℕ) → account_at [] a ≡ nobody
 none_at zero = refl
@@ -23,15 +31,6 @@ none_agrees r =
 
 pub none_balanced : Balanced []
 none_balanced = record { lots = λ contract. refl; gains = refl }
-
-noughts : (n k : ℕ) → unwrap_or (slice_get (replicate n (pos 0)) k) (pos 0) ≡ pos 0
-noughts zero k = refl
-noughts (suc n) zero = refl
-noughts (suc n) (suc k) = noughts n k
-
-noughts_at : (n contract : ℕ) → unwrap_or (numbered (replicate n (pos 0)) contract) (pos 0) ≡ pos 0
-noughts_at n zero = refl
-noughts_at n (suc k) = noughts n k
 
 module _ (f : Account → ℤ) (b : Account) (e : f b ≡ f nobody) where
   one_more : (xs : List Account) (k : ℕ) → f (unwrap_or (slice_get (xs ++ b ∷ []) k) nobody) ≡ f (unwrap_or (slice_get xs k) nobody)

@@ -1,7 +1,7 @@
 -- Booking a trade and entering it keeps positions and money what the trades come to, and keeps the balance.
-use Rattle.std.proofs.Common.{◌≡◌, ℕ, zero, suc, ◌<◌, ◌≤◌, true, eqb, List, [], ◌∷◌, ◌++◌, length, get_or, ℤ, pos, ◌+ℤ◌, ◌-ℤ◌, ◌*ℤ◌, neg_ℤ, unwrap_or, sym, ap, ◌∙◌, subst, ⊎_elim, arith}
-use lib.IntN.{+ℤ_idr}
-use borrow.Author.Differences.{ints}
+use Rattle.std.proofs.Common.{◌≡◌, ℕ, zero, suc, ◌<◌, ◌≤◌, true, eqb, List, get_or, ℤ, pos, ◌+ℤ◌, ◌-ℤ◌, ◌*ℤ◌, neg_ℤ, nat_abs, unwrap_or, sym, ap, ◌∙◌, subst, ⊎_elim, arith}
+use Rattle.std.proofs.Math.IntN.{+ℤ_idr}
+use Rattle.std.proofs.lemmas.Int.{ints}
 use Rattle.std.proofs.lemmas.Option.{slice_get-get_or}
 use Rattle.std.proofs.lemmas.Bool.{cases_eq}
 use Rattle.records.proofs.Numbered.{numbered_replaced_same, numbered_replaced_other, length_replaced}
@@ -9,9 +9,17 @@ use Rattle.records.specs.Registers.{numbered, replaced}
 use Rattle.records.specs.declared.account.Account.{Account}
 use Rattle.records.specs.declared.rows.Trade.{Trade}
 use Rattle.books.specs.Accounts.{nobody, account_at, holding, position, money, entered, enter_at, booked}
-use Rattle.books.specs.Entries.{Reading, sum_ℤ, when, difference, brought, Agrees, Balanced}
-use Rattle.books.specs.Known.{Known, Wide}
+use Rattle.books.specs.Entries.{sum_ℤ, when, difference, brought, Balanced}
+use Rattle.books.specs.Known.{Known}
+use Rattle.books.specs.Ledgers.{Room, KeepsAgreement}
 use Rattle.books.proofs.Sums.{sum_ℤ_push, sum_ℤ_set, when_same, when_other, when_lots, when_money, when_same_difference}
+
+-- what `book` requires
+pub record Allowed (t : Trade) (buyer seller : ℕ) (by : ℤ) (accounts : List Account) : Type 0 where
+  pub known : Known accounts buyer × Known accounts seller
+  pub contract : (0 < t.contract) × (t.contract ≤ 32)
+  pub small : (t.quantity ≤ 10000) × (nat_abs by ≤ 3000000000)
+  pub room : Room accounts buyer t.contract × Room accounts seller t.contract
 
 -- what holds at each number after one record was replaced
 pub one_replaced : {X : Type 0} (xs : List X) (n : ℕ) (y d : X) (P : ℕ → X → Type 0) → Known xs n
@@ -33,12 +41,12 @@ sum_ℤ_replaced f xs (suc n) y d known =
     let h = sum_ℤ_set f xs n y d known.1 in
     omega (arith, ints)
 
-module _ (n contract : ℕ) (lots gain : ℤ) (accounts : List Account) (known : Known accounts n) (wide : Wide accounts) (within : (0 < contract) × (contract ≤ 32)) where
+module _ (n contract : ℕ) (lots gain : ℤ) (accounts : List Account) (known : Known accounts n) (within : (0 < contract) × (contract ≤ 32)) where
   abbrev account : Account
   account = account_at accounts n
 
   in_place : Known account.positions contract
-  in_place = (within.0, let e = wide n known in omega arith)
+  in_place = (within.0, let e = account.wide in omega arith)
 
   -- the position of the entered account, and of every other
   entered_holding : (c : ℕ) → holding (entered contract lots gain account) c ≡ holding account c +ℤ when (eqb contract c) lots
@@ -65,13 +73,6 @@ module _ (n contract : ℕ) (lots gain : ℤ) (accounts : List Account) (known :
   unfolding enter_at
   enter_known k h = known_replaced accounts n k _ h
 
-  pub enter_wide : Wide (enter_at n contract lots gain accounts)
-  unfolding enter_at
-  enter_wide k h =
-      one_replaced accounts n (entered contract lots gain account) nobody (λ j b. Known accounts j → length b.positions ≡ 32) known
-      (λ _. length_replaced account.positions contract _ ∙ wide n known)
-      (λ j ne. wide j) k (h.0, let e = length_replaced accounts n (entered contract lots gain account) in omega arith)
-
   pub enter_lots_sum : (c : ℕ) → sum_ℤ (λ a. holding a c) (enter_at n contract lots gain accounts) ≡ sum_ℤ (λ a. holding a c) accounts +ℤ when (eqb contract c) lots
   unfolding enter_at
   enter_lots_sum c =
@@ -87,72 +88,65 @@ module _ (n contract : ℕ) (lots gain : ℤ) (accounts : List Account) (known :
 
 -- ---- one trade
 
-module _ (t : Trade) (buyer seller : ℕ) (difference : ℤ) (accounts : List Account)
-    (b : Known accounts buyer) (s : Known accounts seller) (wide : Wide accounts) (within : (0 < t.contract) × (t.contract ≤ 32)) where
+module _ {t : Trade} {buyer seller : ℕ} {by : ℤ} {accounts : List Account} (allowed : Allowed t buyer seller by accounts) where
   abbrev q : ℤ
   q = pos t.quantity
 
   abbrev gain : ℤ
-  gain = q *ℤ difference
+  gain = q *ℤ by
 
   abbrev mid : List Account
   mid = enter_at buyer t.contract q gain accounts
 
   mid_seller : Known mid seller
-  mid_seller = enter_known buyer t.contract q gain accounts b wide within seller s
+  mid_seller = enter_known buyer t.contract q gain accounts allowed.known.0 allowed.contract seller allowed.known.1
 
-  mid_wide : Wide mid
-  mid_wide = enter_wide buyer t.contract q gain accounts b wide within
-
-  pub booked_position : (a c : ℕ) → position (booked t buyer seller difference accounts) a c ≡ position accounts a c +ℤ when (eqb t.contract c) (when (eqb buyer a) q -ℤ when (eqb seller a) q)
+  pub booked_position : (a c : ℕ) → position (booked t buyer seller by accounts) a c ≡ position accounts a c +ℤ when (eqb t.contract c) (when (eqb buyer a) q -ℤ when (eqb seller a) q)
   unfolding booked
   booked_position a c =
-      let h = enter_position buyer t.contract q gain accounts b wide within a c in
-      let k = enter_position seller t.contract (neg_ℤ q) (neg_ℤ gain) mid mid_seller mid_wide within a c in
+      let h = enter_position buyer t.contract q gain accounts allowed.known.0 allowed.contract a c in
+      let k = enter_position seller t.contract (neg_ℤ q) (neg_ℤ gain) mid mid_seller allowed.contract a c in
       let o = when_lots (eqb buyer a) (eqb seller a) (eqb t.contract c) t.quantity in
       omega (arith, ints)
 
-  pub booked_money : (a : ℕ) → money (booked t buyer seller difference accounts) a ≡ money accounts a +ℤ (when (eqb buyer a) q -ℤ when (eqb seller a) q) *ℤ difference
+  pub booked_money : (a : ℕ) → money (booked t buyer seller by accounts) a ≡ money accounts a +ℤ (when (eqb buyer a) q -ℤ when (eqb seller a) q) *ℤ by
   unfolding booked
   booked_money a =
-      let h = enter_money buyer t.contract q gain accounts b wide within a in
-      let k = enter_money seller t.contract (neg_ℤ q) (neg_ℤ gain) mid mid_seller mid_wide within a in
-      let o = when_money (eqb buyer a) (eqb seller a) q difference in
+      let h = enter_money buyer t.contract q gain accounts allowed.known.0 allowed.contract a in
+      let k = enter_money seller t.contract (neg_ℤ q) (neg_ℤ gain) mid mid_seller allowed.contract a in
+      let o = when_money (eqb buyer a) (eqb seller a) q by in
       omega (arith, ints)
 
-  pub booked_balanced : Balanced accounts → Balanced (booked t buyer seller difference accounts)
+  pub booked_balanced : Balanced accounts → Balanced (booked t buyer seller by accounts)
   unfolding booked
   booked_balanced h =
       record {
         lots = λ c.
-            let e = enter_lots_sum buyer t.contract q gain accounts b wide within c in
-            let f = enter_lots_sum seller t.contract (neg_ℤ q) (neg_ℤ gain) mid mid_seller mid_wide within c in
+            let e = enter_lots_sum buyer t.contract q gain accounts allowed.known.0 allowed.contract c in
+            let f = enter_lots_sum seller t.contract (neg_ℤ q) (neg_ℤ gain) mid mid_seller allowed.contract c in
             let g = h.lots c in
             let w = when_lots true true (eqb t.contract c) t.quantity in
             let z = when_same_difference (eqb t.contract c) q in
             omega (arith, ints);
         gains =
-            let e = enter_money_sum buyer t.contract q gain accounts b wide within in
-            let f = enter_money_sum seller t.contract (neg_ℤ q) (neg_ℤ gain) mid mid_seller mid_wide within in
+            let e = enter_money_sum buyer t.contract q gain accounts allowed.known.0 allowed.contract in
+            let f = enter_money_sum seller t.contract (neg_ℤ q) (neg_ℤ gain) mid mid_seller allowed.contract in
             let g = h.gains in
             omega (arith, ints);
       }
 
--- a trade that is booked by its reading, and entered, keeps positions and money what the trades come to
-pub booked_agrees : (r : Reading) (t : Trade) (accounts : List Account) (ts : List Trade)
-    → Known accounts (r.owner t.buying_order) → Known accounts (r.owner t.selling_order) → Wide accounts → (0 < t.contract) × (t.contract ≤ 32)
-    → Agrees r accounts ts
-    → Agrees r (booked t (r.owner t.buying_order) (r.owner t.selling_order) (difference r t) accounts) (ts ++ t ∷ [])
-booked_agrees r t accounts ts b s wide within g =
-    record {
-      lots = λ a c.
-          let h = booked_position t (r.owner t.buying_order) (r.owner t.selling_order) (difference r t) accounts b s wide within a c in
-          let p = sum_ℤ_push (λ t. when (eqb t.contract c) (brought r a t)) ts t in
-          let e = g.lots a c in
-          omega (arith, ints);
-      gains = λ a.
-          let h = booked_money t (r.owner t.buying_order) (r.owner t.selling_order) (difference r t) accounts b s wide within a in
-          let p = sum_ℤ_push (λ t. brought r a t *ℤ difference r t) ts t in
-          let e = g.gains a in
-          omega (arith, ints);
-    }
+  -- a trade that is booked as it is read, and entered, keeps positions and money what the trades come to
+  pub keeps_agreement : KeepsAgreement t buyer seller by accounts (booked t buyer seller by accounts)
+  keeps_agreement r ts eb es ed g =
+      record {
+        lots = λ a c.
+            let h = booked_position a c in
+            let p = rw (eb, es) at (sum_ℤ_push (λ x. when (eqb x.contract c) (brought r a x)) ts t) in
+            let e = g.lots a c in
+            omega (arith, ints);
+        gains = λ a.
+            let h = booked_money a in
+            let p = rw (eb, es, ed) at (sum_ℤ_push (λ x. brought r a x *ℤ difference r x) ts t) in
+            let e = g.gains a in
+            omega (arith, ints);
+      }

@@ -1,12 +1,9 @@
 pub mod Beginning
 pub mod Booked
 pub mod Booking
-pub mod Entering
 pub mod Holdings
 pub mod Listing
-pub mod Revalued
 pub mod Revaluing
-pub mod Rooms
 pub mod Small
 pub mod Sums
 pub mod Values

@@ -1,17 +1,17 @@
 -- A new settlement price: revaluation keeps positions and money what the trades come to, and keeps the balance.
-use Rattle.std.proofs.Common.{◌≡◌, ℕ, zero, suc, Bool, true, false, cond, eqb, List, [], ◌∷◌, map, length, ℤ, pos, ◌+ℤ◌, ◌-ℤ◌, ◌*ℤ◌, Some, None, Option, unwrap_or, sym, refl, ap, ◌∙◌, ap₂, arith}
-use lib.IntN.{+ℤ_idr, zero-*ℤ}
-use borrow.Author.Differences.{ints}
-use Rattle.std.proofs.lemmas.List.{length-map}
+use Rattle.std.proofs.Common.{◌≡◌, ℕ, zero, suc, Bool, true, false, cond, eqb, List, [], ◌∷◌, map, ℤ, pos, ◌+ℤ◌, ◌-ℤ◌, ◌*ℤ◌, Some, None, Option, unwrap_or, sym, refl, ap, ◌∙◌, ap₂, arith}
+use Rattle.std.proofs.Math.IntN.{+ℤ_idr, zero-*ℤ}
+use Rattle.std.proofs.lemmas.Int.{ints}
 use Rattle.std.proofs.lemmas.Bool.{eqb-true}
-use Rattle.std.specs.List.{slice_get}
+use Rattle.std.proofs.lemmas.Option.{slice_get-map}
+use Rattle.std.specs.List.{AllZip}
 use Rattle.std.specs.Option.{option_map}
 use Rattle.records.specs.Registers.{numbered}
 use Rattle.records.specs.declared.account.Account.{Account}
 use Rattle.records.specs.declared.rows.Trade.{Trade}
 use Rattle.books.specs.Accounts.{nobody, account_at, holding, position, money, revalued}
 use Rattle.books.specs.Entries.{Reading, sum_ℤ, when, difference, brought, lots_due, money_due, settled_at, change_to, Agrees, Balanced}
-use Rattle.books.specs.Known.{Wide}
+use Rattle.books.proofs.Beginning.{nobody_holds}
 use Rattle.books.proofs.Sums.{distrib, distrib_left}
 
 module _ (r : Reading) (contract : ℕ) (price : ℤ) where
@@ -43,14 +43,15 @@ module _ (r : Reading) (contract : ℕ) (price : ℤ) where
       let k = distrib (when (eqb t.contract contract) (brought r a t)) (lots_due r a contract ts) (change_to r contract price) in
       omega (arith, ints)
 
-nth_map : {X Y : Type 0} (f : X → Y) (xs : List X) (k : ℕ) → slice_get (map f xs) k ≡ option_map f (slice_get xs k)
-nth_map f [] k = refl
-nth_map f (x ∷ xs) zero = refl
-nth_map f (x ∷ xs) (suc k) = nth_map f xs k
+pub mapped : {X Y : Type 0} (R : X → Y → Type 0) (f : X → Y) (xs : List X) (ys : List Y) → AllZip R xs ys → ((x : X) (y : Y) → R x y → y ≡ f x) → ys ≡ map f xs
+mapped R f [] [] h each = refl
+mapped R f [] (y ∷ ys) h each = absurd h
+mapped R f (x ∷ xs) [] h each = absurd h
+mapped R f (x ∷ xs) (y ∷ ys) h each = ap₂ ◌∷◌ (each x y h.0) (mapped R f xs ys h.1 each)
 
 numbered_map : {X Y : Type 0} (f : X → Y) (xs : List X) (n : ℕ) → numbered (map f xs) n ≡ option_map f (numbered xs n)
 numbered_map f xs zero = refl
-numbered_map f xs (suc n) = nth_map f xs n
+numbered_map f xs (suc n) = slice_get-map f xs n
 
 value_mapped : {X : Type 0} (f : X → X) (o : Option X) (d : X) → f d ≡ d → unwrap_or (option_map f o) d ≡ f (unwrap_or o d)
 value_mapped f None d e = sym e
@@ -59,11 +60,9 @@ value_mapped f (Some x) d e = refl
 module _ (contract : ℕ) (by : ℤ) (accounts : List Account) where
   nobody_same : revalued contract by nobody ≡ nobody
   unfolding revalued
-  nobody_same = let m : pos 0 +ℤ holding nobody contract *ℤ by ≡ pos 0 = nought contract in ap (λ x. record { holder = nobody.holder; positions = []; money = x }) m
-    where
-      nought : (c : ℕ) → pos 0 +ℤ holding nobody c *ℤ by ≡ pos 0
-      nought zero = ap (λ y. pos 0 +ℤ y) (zero-*ℤ by)
-      nought (suc c) = ap (λ y. pos 0 +ℤ y) (zero-*ℤ by)
+  nobody_same =
+      ap (λ x. record { holder = nobody.holder; positions = nobody.positions; money = x; wide = nobody.wide })
+      (ap (λ h. pos 0 +ℤ h *ℤ by) (nobody_holds contract) ∙ ap (λ y. pos 0 +ℤ y) (zero-*ℤ by))
 
   at : (n : ℕ) → account_at (map (revalued contract by) accounts) n ≡ revalued contract by (account_at accounts n)
   at n = ap (λ o. unwrap_or o nobody) (numbered_map (revalued contract by) accounts n) ∙ value_mapped (revalued contract by) (numbered accounts n) nobody nobody_same
@@ -111,8 +110,3 @@ revalued_agrees r contract price accounts ts g =
           ∙ ap₂ (λ x y. x +ℤ y *ℤ change_to r contract price) (g.gains a) (g.lots a contract)
           ∙ sym (entries r contract price a ts);
     }
-
-pub revalued_wide : (contract : ℕ) (by : ℤ) (accounts : List Account) → Wide accounts → Wide (map (revalued contract by) accounts)
-unfolding revalued
-revalued_wide contract by accounts wide n known =
-    ap (λ (b : Account). length b.positions) (at contract by accounts n) ∙ wide n (known.0, let e = length-map accounts (revalued contract by) in omega (arith, known.1))

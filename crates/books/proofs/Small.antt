@@ -1,12 +1,12 @@
 -- What the trades come to grows with their number alone.
-use Rattle.std.proofs.Common.{◌≡◌, ℕ, suc, ◌+◌, ◌*◌, ◌≤◌, Bool, true, false, eqb, List, [], ◌∷◌, length, ℤ, pos, ◌-ℤ◌, ◌*ℤ◌, nat_abs, sym, subst, suc-mul, arith}
-use borrow.Author.Differences.{ints}
-use Rattle.std.specs.List.{AllByRecursion}
+use Rattle.std.proofs.Common.{◌≡◌, ℕ, suc, ◌+◌, ◌*◌, ◌≤◌, Bool, true, false, eqb, List, [], ◌∷◌, All, length, ℤ, pos, ◌-ℤ◌, ◌*ℤ◌, nat_abs, sym, subst, suc-mul, arith}
+use Rattle.std.proofs.lemmas.Int.{ints}
+use Rattle.std.proofs.lemmas.List.Elements.{All-head, All-tail}
 use Rattle.records.specs.declared.rows.Trade.{Trade}
 use Rattle.books.specs.Accounts.{position, money}
 use Rattle.books.specs.Bounds.{Bounded, LawfulTrade, SumsStaySmall}
 use Rattle.books.specs.Entries.{Reading, sum_ℤ, when, difference, brought, lots_due, money_due}
-use Rattle.books.proofs.Within.{mul_within, add_within, sub_within}
+use Rattle.books.proofs.Within.{mul_within}
 
 when_within : (b : Bool) (z : ℤ) (m : ℕ) → nat_abs z ≤ m → nat_abs (when b z) ≤ m
 when_within true z m h = h
@@ -18,14 +18,13 @@ brought_within true false q = omega (arith, ints)
 brought_within false true q = omega (arith, ints)
 brought_within false false q = omega (arith, ints)
 
-sum_within : (f : Trade → ℤ) (m : ℕ) → ((t : Trade) → LawfulTrade t → nat_abs (f t) ≤ m) → (ts : List Trade) → AllByRecursion LawfulTrade ts → nat_abs (sum_ℤ f ts) ≤ length ts * m
+sum_within : (f : Trade → ℤ) (m : ℕ) → ((t : Trade) → LawfulTrade t → nat_abs (f t) ≤ m) → (ts : List Trade) → All LawfulTrade ts → nat_abs (sum_ℤ f ts) ≤ length ts * m
 sum_within f m h [] all = omega arith
 sum_within f m h (t ∷ ts) all =
-    let here = h t all.0 in
-    let rest = sum_within f m h ts all.1 in
-    let both = add_within (f t) (sum_ℤ f ts) m (length ts * m) here rest in
+    let here = h t (All-head LawfulTrade t ts all) in
+    let rest = sum_within f m h ts (All-tail LawfulTrade t ts all) in
     let e : suc (length ts) * m ≡ length ts * m + m = suc-mul (length ts) m in
-    omega arith
+    omega (arith, ints)
 
 module _ (r : Reading) (b : Bounded r) where
   difference_within : (t : Trade) → LawfulTrade t → nat_abs (difference r t) ≤ 3000000000
@@ -33,7 +32,7 @@ module _ (r : Reading) (b : Bounded r) where
       let s = b.values t.contract (r.settlement t.contract) in
       let p = b.values t.contract t.price in
       let i = b.settlements t.contract in
-      sub_within (r.value t.contract (r.settlement t.contract)) (r.value t.contract t.price) 1000000000 2000000000 (omega arith) (omega (arith, h.1))
+      omega (arith, ints)
 
   lots_within : (a contract : ℕ) (t : Trade) → LawfulTrade t → nat_abs (when (eqb t.contract contract) (brought r a t)) ≤ 10000
   lots_within a contract t h =

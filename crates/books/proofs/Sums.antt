@@ -1,7 +1,8 @@
 -- Products and sums of signed numbers.
 use Rattle.std.proofs.Common.{◌≡◌, ℕ, zero, suc, ◌*◌, ◌<◌, Bool, true, false, eqb, List, [], ◌∷◌, ◌++◌, length, get_or, set, ℤ, pos, ◌+ℤ◌, ◌-ℤ◌, ◌*ℤ◌, neg_ℤ, sym, refl, ap, ◌∙◌, ap₂, add-mul, arith}
-use lib.IntN.{*ℤ_comm, +ℤ_idr, +ℤ_idl, +ℤ_invr, zero-*ℤ}
-use borrow.Author.Differences.{ints, up, down, sum_is_lem}
+use Rattle.std.proofs.Math.IntN.{*ℤ_comm, +ℤ_idr, +ℤ_idl, +ℤ_invr, zero-*ℤ}
+use borrow.Author.Differences.{up, down, sum_is_lem}
+use Rattle.std.proofs.lemmas.Int.{ints}
 use Rattle.std.proofs.lemmas.Bool.{eq-eqb, ne_eqb}
 use Rattle.books.specs.Entries.{sum_ℤ, when}
 

@@ -1,12 +1,12 @@
 -- The value of a price is bounded.
-use Rattle.std.proofs.Common.{◌≡◌, ℕ, ◌+◌, ◌*◌, ◌^◌, ◌<◌, ◌≤◌, true, ◌&&◌, leb, ℤ, pos, negsuc, ◌-ℤ◌, ◌*ℤ◌, nat_abs, sym, ap, ◌∙◌, subst, ap₂, mul_comm, mul-le-mul, arith, w32, w64, SFits, to_z, of_z}
-use lib.Signed.{quot_z, mag}
-use Rattle.std.proofs.lemmas.Int.{ints, to_z-of_z}
+use Rattle.std.proofs.Common.{◌≡◌, ◌+◌, ◌*◌, ◌<◌, ◌≤◌, true, ◌&&◌, leb, ℤ, pos, ◌-ℤ◌, ◌*ℤ◌, nat_abs, mul_comm, mul-le-mul, arith, w32, w64, FitsSigned, to_z, of_z}
+use Rattle.std.specs.Prelude.{int_div}
+use Rattle.std.proofs.lemmas.Int.{ints, to_z-of_z, unsigned_abs-mul, fits_signed_from_abs}
 use Rattle.std.proofs.lemmas.Bool.{and_parts, leb-true}
 use Rattle.records.specs.Ranges.{between, within, price_in_range, bounds_in_order, prices_in_order}
 use Rattle.records.specs.declared.contract.Contract.{Contract}
 use Rattle.books.specs.Value.{value, value_at}
-use Rattle.books.proofs.Within.{abs_mul, quot_within, sub_within, fits}
+use Rattle.books.proofs.Within.{mul_within, quot_within}
 
 -- W is at most 1,000, and R at least 1
 module _ (c : Contract) where
@@ -27,38 +27,40 @@ module _ (c : Contract) where
   pub value_bounded : (price : ℤ) → nat_abs (value price c.terms.w c.terms.r) ≤ 1000 * nat_abs price
   value_bounded price =
       quot_within (price *ℤ pos c.terms.w) c.terms.r (1000 * nat_abs price)
-      (let e = abs_mul price (pos c.terms.w) in
+      (let e = unsigned_abs-mul price (pos c.terms.w) in
       let h : nat_abs price * c.terms.w ≤ nat_abs price * 1000 = mul-le-mul (omega arith) factor_small in
       let k = mul_comm (nat_abs price) 1000 in
       omega arith)
 
-pub fits_small : (z : ℤ) → SFits w32 z → nat_abs z ≤ 2147483648
-fits_small (pos a) h = omega (arith, h.sfits)
-fits_small (negsuc a) h = omega (arith, h.sfits)
+-- the quotient that the code makes
+module _ (c : Contract) (price : ℤ) (passed : FitsSigned w32 price) where
+  small : nat_abs price ≤ 2147483648
+  small = omega (arith, ints)
 
--- the number that the code divides
-module _ (c : Contract) (price : ℤ) (passed : SFits w32 price) (times : ℤ) (e : times ≡ to_z w32 (of_z w32 price) *ℤ pos c.terms.w) where
-  pub times_is : times ≡ price *ℤ pos c.terms.w
-  times_is = e ∙ ap (λ p. p *ℤ pos c.terms.w) (to_z-of_z w32 price passed)
+  pub value_fits : FitsSigned w64 (value_at c price)
+  value_fits = fits_signed_from_abs w64 (value_at c price) (omega (arith, value_bounded c price, small))
 
-  times_small : nat_abs times ≤ 2147483648000
-  times_small =
-      let m = abs_mul price (pos c.terms.w) in
-      let h : nat_abs price * c.terms.w ≤ 2147483648 * 1000 = mul-le-mul (fits_small price passed) (factor_small c) in
-      subst (λ z. nat_abs z ≤ 2147483648000) (sym times_is) (omega arith)
+  module _ {p w r : ℤ} (ep : p ≡ price) (ew : w ≡ pos c.terms.w) (er : r ≡ pos c.terms.r) where
+    product_fits : FitsSigned w64 (price *ℤ pos c.terms.w)
+    product_fits =
+        fits_signed_from_abs w64 (price *ℤ pos c.terms.w)
+        (omega (arith, mul_within price (pos c.terms.w) 2147483648 1000 small (factor_small c)))
 
-  times_same : to_z w64 (of_z w64 times) ≡ times
-  times_same = to_z-of_z w64 times (fits times (omega (arith, times_small)))
+    pub quotient : int_div (to_z w64 (of_z w64 (p *ℤ w))) r ≡ value_at c price
+    quotient = rw (ep, ew, er, to_z-of_z w64 (price *ℤ pos c.terms.w) product_fits)
 
-  pub divided_small : nat_abs (to_z w64 (of_z w64 times)) ≤ 2147483648000
-  divided_small = subst (λ z. nat_abs z ≤ 2147483648000) (sym times_same) times_small
+  -- a value as it is told for a price that is passed
+  pub told : {z : ℤ} → z ≡ value_at c (to_z w32 (of_z w32 price)) → to_z w64 (of_z w64 z) ≡ value_at c price
+  told e = rw (e, to_z-of_z w32 price passed, to_z-of_z w64 (value_at c price) value_fits)
 
-  module _ (result : ℤ) (fitted : mag result < 9223372036854775808) (d : result ≡ quot_z (to_z w64 (of_z w64 times)) (pos c.terms.r)) where
-    pub result_is : to_z w64 (of_z w64 result) ≡ value price c.terms.w c.terms.r
-    result_is = to_z-of_z w64 result (record { sfits = fitted }) ∙ d ∙ ap (λ n. quot_z n (pos c.terms.r)) (times_same ∙ times_is)
+-- and the difference of two
+module _ (c : Contract) (to from : ℤ) where
+  pub difference_within : nat_abs (value_at c to -ℤ value_at c from) ≤ 1000 * nat_abs to + 1000 * nat_abs from
+  difference_within = omega (arith, ints, value_bounded c to, value_bounded c from)
 
-    pub result_bounded : nat_abs (to_z w64 (of_z w64 result)) ≤ 1000 * nat_abs price
-    result_bounded = subst (λ z. nat_abs z ≤ 1000 * nat_abs price) (sym result_is) (value_bounded c price)
+  pub difference_fits : FitsSigned w32 to → FitsSigned w32 from → FitsSigned w64 (value_at c to -ℤ value_at c from)
+  difference_fits f g =
+      fits_signed_from_abs w64 (value_at c to -ℤ value_at c from) (omega (arith, difference_within, small c to f, small c from g))
 
 within_small : (z : ℤ) → within 1000000 z ≡ true → nat_abs z ≤ 1000000
 within_small z h = grind (arith, ints)
@@ -68,43 +70,3 @@ settlement_small c =
     let p = (and_parts (prices_in_order c.terms.lower c.terms.settlement c.terms.upper) _ (prices_and_factors c)).0 in
     let b = and_parts (bounds_in_order c.terms.lower c.terms.upper) _ p in
     within_small c.terms.settlement (and_parts (price_in_range c.terms.settlement) _ b.1).0
-
--- a value as it is told for a price that is passed
-module _ (c : Contract) (price : ℤ) (passed : SFits w32 price) (told : ℤ) (e : told ≡ value (to_z w32 (of_z w32 price)) c.terms.w c.terms.r) where
-  told_is : told ≡ value price c.terms.w c.terms.r
-  told_is = e ∙ ap (λ p. value p c.terms.w c.terms.r) (to_z-of_z w32 price passed)
-
-  told_small : nat_abs told ≤ 1000 * nat_abs price
-  told_small = subst (λ z. nat_abs z ≤ 1000 * nat_abs price) (sym told_is) (value_bounded c price)
-
-  pub told_same : to_z w64 (of_z w64 told) ≡ value price c.terms.w c.terms.r
-  told_same = to_z-of_z w64 told (fits told (omega (arith, told_small, fits_small price passed))) ∙ told_is
-
-  pub told_bounded : nat_abs (to_z w64 (of_z w64 told)) ≤ 1000 * nat_abs price
-  told_bounded = subst (λ z. nat_abs z ≤ 1000 * nat_abs price) (sym told_same) (value_bounded c price)
-
-  pub told_fits : nat_abs (to_z w64 (of_z w64 told)) ≤ 2147483648000
-  told_fits = omega (arith, told_bounded, fits_small price passed)
-
-module _ (a b result : ℤ) (m n : ℕ) (ha : nat_abs a ≤ m) (hb : nat_abs b ≤ n) (l : m + n < 2 ^ 63) (e : result ≡ a -ℤ b) where
-  result_small : nat_abs result ≤ m + n
-  result_small = subst (λ z. nat_abs z ≤ m + n) (sym e) (sub_within a b m n ha hb)
-
-  pub difference_same : to_z w64 (of_z w64 result) ≡ a -ℤ b
-  difference_same = to_z-of_z w64 result (fits result (omega (arith, result_small))) ∙ e
-
-  pub difference_small : nat_abs (to_z w64 (of_z w64 result)) ≤ m + n
-  difference_small = subst (λ z. nat_abs z ≤ m + n) (sym (to_z-of_z w64 result (fits result (omega (arith, result_small))))) result_small
-
--- a difference of values as it is told for two prices that are passed
-module _ (c : Contract) (to from : ℤ) (passed_to : SFits w32 to) (passed_from : SFits w32 from) (result : ℤ) (fitted : mag result < 9223372036854775808) where
-  pub gained_is : result ≡ value_at c (to_z w32 (of_z w32 to)) -ℤ value_at c (to_z w32 (of_z w32 from)) → to_z w64 (of_z w64 result) ≡ value_at c to -ℤ value_at c from
-  gained_is e =
-      to_z-of_z w64 result (record { sfits = fitted }) ∙ e
-      ∙ ap₂ (λ a b. value_at c a -ℤ value_at c b) (to_z-of_z w32 to passed_to) (to_z-of_z w32 from passed_from)
-
-  pub gained_small : nat_abs result ≤ 1000 * nat_abs (to_z w32 (of_z w32 to)) + 1000 * nat_abs (to_z w32 (of_z w32 from)) → nat_abs (to_z w64 (of_z w64 result)) ≤ 1000 * nat_abs to + 1000 * nat_abs from
-  gained_small h =
-      let t : nat_abs (to_z w32 (of_z w32 to)) ≡ nat_abs to = ap nat_abs (to_z-of_z w32 to passed_to) in
-      let f : nat_abs (to_z w32 (of_z w32 from)) ≡ nat_abs from = ap nat_abs (to_z-of_z w32 from passed_from) in
-      subst (λ z. nat_abs z ≤ 1000 * nat_abs to + 1000 * nat_abs from) (sym (to_z-of_z w64 result (record { sfits = fitted }))) (omega arith)

@@ -1,21 +1,20 @@
 -- Accounts by number, what each holds, and what booking changes.
-use Rattle.std.specs.Prelude.{ℕ, List, [], ℤ, pos, ◌+ℤ◌, ◌*ℤ◌, neg_ℤ, refl}
+use Rattle.std.specs.Prelude.{ℕ, List, replicate, ℤ, pos, ◌+ℤ◌, ◌*ℤ◌, neg_ℤ, refl}
 use Rattle.std.specs.Option.{unwrap_or}
+use Rattle.std.proofs.Common.{◌∙◌}
 use Rattle.records.specs.Registers.{numbered, replaced}
+use Rattle.records.proofs.Numbered.{length_replaced}
+pub use Rattle.records.specs.Accounts.{holding}
 use Rattle.records.specs.declared.account.Account.{Account}
 use Rattle.records.specs.declared.rows.Trade.{Trade}
 
 -- what is read of an account that there is not: it holds nothing
 abbrev pub nobody : Account
 nobody =
-    record { holder = record { terms = record { participant = 1; taxpayer = 1 }; ranges = refl }; positions = []; money = pos 0 }
+    record { holder = record { terms = record { participant = 1; taxpayer = 1 }; ranges = refl }; positions = replicate 32 (pos 0); money = pos 0; wide = refl }
 
 abbrev pub account_at : List Account → ℕ → Account
 account_at accounts n = unwrap_or (numbered accounts n) nobody
-
--- the lots that an account is long (above nought) or short (below) in a contract
-abbrev pub holding : Account → ℕ → ℤ
-holding a contract = unwrap_or (numbered a.positions contract) (pos 0)
 
 abbrev pub position : List Account → ℕ → ℕ → ℤ
 position accounts n contract = holding (account_at accounts n) contract
@@ -26,7 +25,7 @@ money accounts n = (account_at accounts n).money
 -- an account with lots more in a contract, and money gained
 abbrev pub entered : ℕ → ℤ → ℤ → Account → Account
 entered contract lots gain a =
-    record { holder = a.holder; positions = replaced a.positions contract (holding a contract +ℤ lots); money = a.money +ℤ gain }
+    record { holder = a.holder; positions = replaced a.positions contract (holding a contract +ℤ lots); money = a.money +ℤ gain; wide = length_replaced a.positions contract (holding a contract +ℤ lots) ∙ a.wide }
 
 -- the same in one account of a table
 unfoldable pub enter_at : ℕ → ℕ → ℤ → ℤ → List Account → List Account
@@ -41,4 +40,4 @@ booked t buyer seller difference accounts =
 
 -- an account revalued: its money gains its position times the change of value
 unfoldable pub revalued : ℕ → ℤ → Account → Account
-revalued contract change a = record { holder = a.holder; positions = a.positions; money = a.money +ℤ holding a contract *ℤ change }
+revalued contract change a = record { holder = a.holder; positions = a.positions; money = a.money +ℤ holding a contract *ℤ change; wide = a.wide }

@@ -1,6 +1,5 @@
 -- No position and no sum of money grows past what the code's numbers hold.
-use Rattle.std.specs.Prelude.{ℕ, ◌*◌, ◌≤◌, List, length, ℤ, unsigned_abs}
-use Rattle.std.specs.List.{AllByRecursion}
+use Rattle.std.specs.Prelude.{ℕ, ◌*◌, ◌≤◌, List, All, length, ℤ, unsigned_abs}
 use Rattle.records.specs.declared.account.Account.{Account}
 use Rattle.records.specs.declared.rows.Trade.{Trade}
 use Rattle.books.specs.Accounts.{position, money}
@@ -19,5 +18,5 @@ LawfulTrade t = (t.quantity ≤ 10000) × (unsigned_abs t.price ≤ 2000000)
 -- 4,096 orders enter at most 8,192 trades: two for each, since each match completes an order
 abbrev pub SumsStaySmall : Type 0
 SumsStaySmall =
-    (r : Reading) (accounts : List Account) (ts : List Trade) → Bounded r → AllByRecursion LawfulTrade ts → length ts ≤ 8192 → Agrees r accounts ts
+    (r : Reading) (accounts : List Account) (ts : List Trade) → Bounded r → All LawfulTrade ts → length ts ≤ 8192 → Agrees r accounts ts
     → (a contract : ℕ) → ((unsigned_abs (position accounts a contract) ≤ 81920000) × (unsigned_abs (money accounts a) ≤ 245760000000000000)) × Room accounts a contract

@@ -1,32 +1,16 @@
 -- The table of accounts.
-use Rattle.std.specs.Prelude.{◌≡◌, ℕ, ◌≤◌, List, [], ◌∷◌, ◌++◌, length, take, replicate, ℤ, pos, unsigned_abs}
+use Rattle.std.specs.Prelude.{◌≡◌, ℕ, ◌≤◌, List, [], ◌∷◌, ◌++◌, replicate, ℤ, pos, unsigned_abs}
 use Rattle.records.specs.declared.account.Account.{Account}
 use Rattle.records.specs.declared.rows.Trade.{Trade}
-use Rattle.books.specs.Accounts.{holding, position, money}
+use Rattle.tables.specs.Tables.{entered}
+use Rattle.records.specs.Accounts.{holding}
+use Rattle.books.specs.Accounts.{position, money}
 use Rattle.books.specs.Entries.{Reading, difference, settled_at, change_to, Agrees, Balanced}
-use Rattle.books.specs.Known.{Wide}
 use Rattle.books.specs.declared.ledger.Ledger.{Ledger}
 
 -- the accounts admitted so far, in the order of their numbers
 abbrev pub accounts_of : Ledger → List Account
-accounts_of l = take l.count l.accounts
-
--- there are no more accounts than places
-abbrev pub Few : Ledger → Type 0
-Few l = l.count ≤ 64
-
-abbrev pub Long : Ledger → Type 0
-Long l = length l.accounts ≡ 64
-
--- each account has a position in every contract
-abbrev pub WideAccounts : Ledger → Type 0
-WideAccounts l = Wide (accounts_of l)
-
--- there are no more accounts than places, and each has a position in every contract
-pub record Sound (l : Ledger) : Type 0 where
-  pub few : l.count ≤ 64
-  pub long : length l.accounts ≡ 64
-  pub wide : Wide (accounts_of l)
+accounts_of l = entered l.accounts
 
 -- an account's position in a contract, and its money, are far from what the code's numbers can hold
 abbrev pub Small : Account → ℕ → Type 0

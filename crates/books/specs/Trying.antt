@@ -1,10 +1,11 @@
 -- When a trade can be booked.
-use Rattle.std.specs.Prelude.{ℕ, Bool, true, false, ◌&&◌, List, [], ◌∷◌, ℤ, Some, None, Option, nat_le}
+use Rattle.std.specs.Prelude.{ℕ, Bool, false, ◌&&◌, List, ℤ, Some, None, Option, nat_le}
+use Rattle.std.specs.List.{list_all}
 use Rattle.records.specs.Ranges.{between, within}
 use Rattle.records.specs.Registers.{numbered}
 use Rattle.records.specs.declared.account.Account.{Account}
 use Rattle.records.specs.declared.rows.Trade.{Trade}
-use Rattle.books.specs.Accounts.{holding}
+use Rattle.records.specs.Accounts.{holding}
 
 -- the contract is one of 32, and position and money leave room for another trade
 abbrev pub roomy : ℕ → Account → Bool
@@ -22,10 +23,6 @@ abbrev pub bookable : Trade → ℕ → ℕ → ℤ → List Account → Bool
 bookable t buyer seller by accounts =
     has_room accounts buyer t.contract && (has_room accounts seller t.contract && (nat_le t.quantity 10000 && within 3000000000 by))
 
-abbrev pub every : (Account → Bool) → List Account → Bool
-every test [] = true
-every test (a ∷ rest) = test a && every test rest
-
 -- every account has room, and the change of value is in range
 abbrev pub revaluable : ℕ → ℤ → List Account → Bool
-revaluable contract change accounts = between 1 32 contract && (within 2000000000 change && every (roomy contract) accounts)
+revaluable contract change accounts = between 1 32 contract && (within 2000000000 change && list_all (roomy contract) accounts)

@@ -4,5 +4,6 @@
 pub mod growth;
 pub mod keeping;
 pub mod ledger;
+mod side;
 pub mod trying;
 pub mod value;

@@ -97,9 +97,7 @@ fn bought(settlement: i32, price: i32, quantity: u32, w: u32, r: u32) -> Option<
         quantity,
         price,
     };
-    if !ledger.try_book(&trade, 1, 2, gain) {
-        return None;
-    }
+    ledger.try_book(&trade, 1, 2, gain).ok()?;
     let buyer = ledger.get(1)?;
     Some((buyer.positions[0], buyer.money))
 }

@@ -4,17 +4,16 @@
 mod files;
 
 use crate::files::read_sheet;
-use anyhow::anyhow;
+use anyhow::ensure;
 use desk::day::hold_day;
+use desk::printout::Printout;
 
 fn run(rt: &HostRuntime) -> anyhow::Result<()> {
     let sheet = read_sheet(rt)?;
-    let mut printed = String::new(rt.alloc());
-    let all_read = hold_day(rt.alloc(), sheet.as_slice(), &mut printed)?;
-    rt.print(printed.as_str())?;
-    if !all_read {
-        return Err(anyhow!("a line is unreadable"));
-    }
+    let mut printed = Printout::new(rt.alloc());
+    hold_day(sheet.as_slice(), &mut printed)?;
+    rt.print(printed.text.as_str())?;
+    ensure!(printed.all_read, "a line is unreadable");
     Ok(())
 }
 

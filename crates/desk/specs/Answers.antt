@@ -1,5 +1,5 @@
 -- What a call or a question of a sheet is answered with, under the exchange's rules.
-use Rattle.std.specs.Prelude.{Bool, true, false, Ok, Err, Result}
+use Rattle.std.specs.Prelude.{Ok, Err, Result}
 use Rattle.market.specs.Calls.{list_contract, list_instrument, admit_account, resume, suspend}
 use Rattle.market.specs.Questions.{record_told, position_told, money_told, overview}
 use Rattle.market.specs.States.{State}
@@ -20,11 +20,11 @@ abbrev pub exchange : RuleMeaning
 exchange = joined futures spread
 
 -- the reply to an answer, or the refusal
-abbrev pub replied : {A : Type 0} → (A → Reply) → Result A Refusal → Reply
-replied told (Ok x) = told x
-replied told (Err g) = reply.Refused g
+abbrev pub replied : {A : Type 0} → (A → Reply) → Result A Refusal → Result Reply Refusal
+replied told (Ok x) = Ok (told x)
+replied told (Err g) = Err g
 
-abbrev pub call_reply : Call → State → Reply
+abbrev pub call_reply : Call → State → Result Reply Refusal
 call_reply (call.ListContract t) s = replied reply.NewContract (list_contract t s).answer
 call_reply (call.ListInstrument t) s = replied reply.NewInstrument (list_instrument exchange t s).answer
 call_reply (call.AdmitAccount t) s = replied reply.NewAccount (admit_account t s).answer
@@ -38,7 +38,7 @@ call_after (call.AdmitAccount t) s = (admit_account t s).after
 call_after call.Resume s = (resume s).after
 call_after call.Suspend s = (suspend s).after
 
-abbrev pub question_reply : Question → State → Reply
+abbrev pub question_reply : Question → State → Result Reply Refusal
 question_reply (question.Contract n) s = replied (λ c. reply.Contract c.terms) (record_told s.contracts n)
 question_reply (question.Instrument n) s = replied (λ i. reply.Instrument i.terms) (record_told s.instruments n)
 question_reply (question.Account n) s = replied (λ a. reply.Account a.holder.terms) (record_told s.accounts n)
@@ -46,20 +46,4 @@ question_reply (question.Position account contract) s = replied reply.Position (
 question_reply (question.Money account) s = replied reply.Money (money_told s account)
 question_reply (question.Order n) s = replied reply.Order (record_told s.orders n)
 question_reply (question.Trade n) s = replied reply.Trade (record_told s.trades n)
-question_reply question.Market s = reply.Market (overview s)
-
--- a reply that is a refusal
-abbrev pub is_refusal : Reply → Bool
-is_refusal (reply.NewContract n) = false
-is_refusal (reply.NewInstrument n) = false
-is_refusal (reply.NewAccount n) = false
-is_refusal reply.Done = false
-is_refusal (reply.Contract t) = false
-is_refusal (reply.Instrument t) = false
-is_refusal (reply.Account t) = false
-is_refusal (reply.Position lots) = false
-is_refusal (reply.Money money) = false
-is_refusal (reply.Order o) = false
-is_refusal (reply.Trade t) = false
-is_refusal (reply.Market v) = false
-is_refusal (reply.Refused g) = true
+question_reply question.Market s = Ok (reply.Market (overview s))

@@ -1,203 +1,123 @@
-ghost use Rattle.std.specs.Prelude.{◌≡◌, ℕ, ◌+◌, ◌^◌, ◌<◌, ◌≤◌, ◌&&◌, List, ◌++◌, length, IfOk, string_bytes, OnOk};
-ghost use Rattle.sheet.specs.Faults.{fault_told};
-ghost use Rattle.desk.specs.Days.{taken_printed, fault_printed, trading, begun_by, lines, sheet_printed, ComesTo, Settles};
-ghost use Rattle.desk.specs.Lines.{taken_told, line_settled};
-ghost use Rattle.sheet.specs.Entries.{line_read};
+ghost use Rattle.std.specs.Prelude.{◌≡◌, ◌+◌, ◌^◌, ◌<◌, length, IfOk, OnOk};
+ghost use Rattle.sheet.specs.Words.{first_line, after_line};
+ghost use Rattle.desk.specs.Days.{shown, followed_by, trading, begun_by, lines, sheet_printed};
 
 use crate::host::{CentreKind, Host};
 use crate::lines::{settle_line, take_line};
-use crate::taken::{Settled, Taken};
+use crate::printout::Printout;
 use anyhow::anyhow;
 use market::market::Market;
-use printing::faults::line_of_fault;
-use printing::lines::line_of_reply;
-use records::codes::Ending;
 use records::rows::{OrderRow, Trade};
-use records::terms::Ticket;
 use rulebook::centre::ClearingCentre;
 use rulebook::lots::LotsCentre;
 use rulebook::pledge::PledgeCentre;
-use sheet::fault::Fault;
 use sheet::lines::next_line;
-use std::alloc::{AllocError, Global};
+use std::alloc::AllocError;
 
-// What the lent places hold before a record takes them.
-const NO_ORDER: OrderRow = OrderRow {
-    ticket: Ticket {
-        account: 0,
-        instrument: 0,
-        direction: 0,
-        order_type: 0,
-        price: 0,
-        size: 0,
-        addressee: None,
-        reference: None,
-        expiry: None,
-    },
-    size: 0,
-    filled: 0,
-    remaining: 0,
-    withdrawn: 0,
-    ending: Ending::NotEnded,
-};
-
-const NO_TRADE: Trade = Trade {
-    contract: 0,
-    buying_order: 0,
-    selling_order: 0,
-    quantity: 0,
-    price: 0,
-};
-
-// Prints that a line is unreadable.
-fn print_fault(
-    heap: Global,
+// What is left of a sheet, and the number of its first line.
+#[derive(Clone, Copy)]
+struct Unread<'s> {
     number: usize,
-    fault: Fault<&[u8]>,
-    printed: &mut String,
-) -> Result<(), AllocError>
-    ensures { OnOk result (string_bytes printed.new ≡ string_bytes printed.old ++ (fault_printed number (fault_told fault.entry)).text) }
-{
-    let text = line_of_fault(heap, number, fault)?;
-    printed.push_str(text.as_str())
+    text: &'s [u8],
+    // there are no more lines than bytes, so each of them has a number
+    ghost countable: { number + length text.now < 2 ^ 64 },
 }
 
-// Prints what became of a line; whether it could be read.
-fn print_taken(
-    heap: Global,
-    number: usize,
-    taken: Taken<&[u8]>,
-    printed: &mut String,
-) -> Result<bool, AllocError>
-    ensures { IfOk result (λ read. (string_bytes printed.new ≡ string_bytes printed.old ++ (taken_printed number (taken_told taken.entry)).text) × (read ≡ (taken_printed number (taken_told taken.entry)).all_read)) }
-{
-    match taken {
-        Taken::Nothing => Ok(true),
-        Taken::Replied(name, reply) => {
-            let text = line_of_reply(heap, number, name.title(), &reply)?;
-            printed.push_str(text.as_str())?;
-            Ok(true)
-        }
-        Taken::Unreadable(fault) => {
-            print_fault(heap, number, fault, printed)?;
-            Ok(false)
-        }
+impl<'s> Unread<'s> {
+    // A whole sheet.
+    fn whole(text: &'s [u8]) -> Unread<'s>
+        ensures number { result.number ≡ 1 }
+        ensures text { result.text.now ≡ text.now }
+    {
+        Unread { number: 1, text }
+    }
+
+    // The first line and what is left behind it.
+    fn next_line(&self) -> (&'s [u8], Unread<'s>)
+        requires { 0 < length self.now.text.now }
+        ensures line { result.0.now ≡ first_line self.now.text.now }
+        ensures number { result.1.number ≡ self.now.number + 1 }
+        ensures rest { result.1.text.now ≡ after_line self.now.text.now }
+        ensures shorter { length result.1.text.now < length self.now.text.now }
+    {
+        let (line, text) = next_line(self.text);
+        let number = self.number + 1;
+        (line, Unread { number, text })
     }
 }
 
-// Carries out lines on a market that begins over the places that the host lends; whether all could be read. So many lines
-// stand before them.
-fn trade<C: ClearingCentre>(
-    heap: Global,
-    centre: &C,
-    host: &Host,
-    text: &[u8],
-    before: usize,
-    printed: &mut String,
-) -> Result<bool, AllocError>
-    requires { before + length text.now < 2 ^ 64 }
-    ensures { IfOk result (λ read. (string_bytes printed.new ≡ string_bytes printed.old ++ (trading (begun_by host.now) (before + 1) (lines text.now)).text) × (read ≡ (trading (begun_by host.now) (before + 1) (lines text.now)).all_read)) }
-{
-    let mut orders = vec![in heap; NO_ORDER; host.order_places]?;
-    let mut trades = vec![in heap; NO_TRADE; host.trade_places]?;
-    let mut market = Market::begin(orders.as_mut_slice(), trades.as_mut_slice());
-    let mut rest = text;
-    let mut all_read = true;
-    for i in 0..text.len() {
-        if rest.is_empty() {
-            break;
-        }
-        let (line, behind) = next_line(rest);
-        let taken = take_line(&mut market, centre, line);
-        let read = print_taken(heap, before + i + 1, taken, printed)?;
-        all_read = all_read && read;
-        rest = behind;
-    }
-    Ok(all_read)
-}
-
-// What is left of a sheet at its first call or question, with what was set up before it.
+// What a sheet sets up, and what is left of it at its first call or question.
 #[derive(Clone, Copy)]
 struct Ready<'s> {
     host: Host,
-    rest: &'s [u8],
-    lines: usize,
-    all_read: bool,
+    unread: Unread<'s>,
 }
 
-// Carries out a line before the first call or question: the host behind it and whether it could be read; none where it is
-// that call or question.
-fn settle(
-    heap: Global,
-    number: usize,
-    host: Host,
-    line: &[u8],
-    printed: &mut String,
-) -> Result<Option<(Host, bool)>, AllocError>
-    ensures { IfOk result (λ o. Settles number (line_settled host (line_read line.now)) host (string_bytes printed.old) (string_bytes printed.new) o) }
+// Carries out what is left of a sheet on a market that begins over the places that the host lends.
+fn trade<C: ClearingCentre>(
+    centre: &C,
+    ready: &Ready,
+    printed: &mut Printout,
+) -> Result<(), AllocError>
+    ensures { OnOk result (shown printed.new ≡ followed_by (shown printed.old) (trading (begun_by ready.now.host) ready.now.unread.number (lines ready.now.unread.text.now))) }
 {
-    match settle_line(host, line) {
-        Settled::Ready(next) => Ok(Some((next, true))),
-        Settled::Over => Ok(None),
-        Settled::Unreadable(fault) => {
-            print_fault(heap, number, fault, printed)?;
-            Ok(Some((host, false)))
-        }
+    let heap = *printed.text.allocator();
+    let mut orders = vec![in heap; OrderRow::default(); ready.host.order_places]?;
+    let mut trades = vec![in heap; Trade::default(); ready.host.trade_places]?;
+    let mut market = Market::begin(orders.as_mut_slice(), trades.as_mut_slice());
+    let mut unread = ready.unread;
+    while !unread.text.is_empty() {
+        let (line, behind) = unread.next_line();
+        printed.add_taken(unread.number, take_line(&mut market, centre, line))?;
+        unread = behind;
     }
+    Ok(())
 }
 
 // Carries out the lines before the first call or question.
-fn set_up<'s>(heap: Global, text: &'s [u8], printed: &mut String) -> Result<Ready<'s>, AllocError>
-    ensures { IfOk result (λ p. ComesTo (string_bytes printed.new) p.all_read (trading (begun_by p.host) (p.lines + 1) (lines p.rest.now)) (string_bytes printed.old ++ (sheet_printed text.now).text) (sheet_printed text.now).all_read × (p.lines + length p.rest.now ≤ length text.now)) }
+fn set_up<'s>(text: &'s [u8], printed: &mut Printout) -> Result<Ready<'s>, AllocError>
+    ensures { IfOk result (λ r. followed_by (shown printed.new) (trading (begun_by r.host) r.unread.number (lines r.unread.text.now)) ≡ followed_by (shown printed.old) (sheet_printed text.now)) }
 {
     let mut host = Host::new();
-    let mut rest = text;
-    let mut lines = 0;
-    let mut all_read = true;
-    for i in 0..text.len() {
-        if rest.is_empty() {
-            break;
+    let mut unread = Unread::whole(text);
+    while !unread.text.is_empty() {
+        let (line, behind) = unread.next_line();
+        match settle_line(host, line) {
+            Ok(Some(next)) => host = next,
+            Ok(None) => break,
+            Err(fault) => printed.add_fault(unread.number, fault)?,
         }
-        let (line, behind) = next_line(rest);
-        let Some((next, read)) = settle(heap, i + 1, host, line, printed)? else {
-            break;
-        };
-        host = next;
-        all_read = all_read && read;
-        rest = behind;
-        lines = i + 1;
+        unread = behind;
     }
-    Ok(Ready {
-        host,
-        rest,
-        lines,
-        all_read,
-    })
+    Ok(Ready { host, unread })
 }
 
-// Carries out what is left of a sheet on a market under the centre that was chosen; whether all of it could be read.
-fn trade_on(heap: Global, ready: &Ready, printed: &mut String) -> anyhow::Result<bool>
-    requires { ready.now.lines + length ready.now.rest.now < 2 ^ 64 }
-    ensures { IfOk result (λ read. (string_bytes printed.new ≡ string_bytes printed.old ++ (trading (begun_by ready.now.host) (ready.now.lines + 1) (lines ready.now.rest.now)).text) × (read ≡ (trading (begun_by ready.now.host) (ready.now.lines + 1) (lines ready.now.rest.now)).all_read)) }
+// Carries out what is left of a sheet on a market under the centre that was chosen.
+fn trade_on(ready: &Ready, printed: &mut Printout) -> anyhow::Result<()>
+    ensures { OnOk result (shown printed.new ≡ followed_by (shown printed.old) (trading (begun_by ready.now.host) ready.now.unread.number (lines ready.now.unread.text.now))) }
 {
     let host = ready.host;
-    if let CentreKind::Pledge = host.centre {
-        return match PledgeCentre::new(host.pledges, host.margins) {
-            Ok(centre) => Ok(trade(heap, &centre, &host, ready.rest, ready.lines, printed)?),
-            Err(_) => Err(anyhow!("a pledge or margin is out of range")),
-        };
+    match host.centre {
+        Some(CentreKind::Pledge) => {
+            let centre = PledgeCentre::new(host.pledges, host.margins).map_err(|_| anyhow!(
+                "a pledge or margin is out of range"
+            ))?;
+            trade(&centre, ready, printed)?;
+        }
+        Some(CentreKind::Lots) | None => {
+            let centre = LotsCentre::new(host.limits).map_err(|_| anyhow!(
+                "a limit is out of range"
+            ))?;
+            trade(&centre, ready, printed)?;
+        }
     }
-    match LotsCentre::new(host.limits) {
-        Ok(centre) => Ok(trade(heap, &centre, &host, ready.rest, ready.lines, printed)?),
-        Err(_) => Err(anyhow!("a limit is out of range")),
-    }
+    Ok(())
 }
 
-// Carries out a whole sheet and adds to what is printed; whether every line could be read.
-pub fn hold_day(heap: Global, text: &[u8], printed: &mut String) -> anyhow::Result<bool>
-    ensures { IfOk result (λ read. (string_bytes printed.new ≡ string_bytes printed.old ++ (sheet_printed text.now).text) × (read ≡ (sheet_printed text.now).all_read)) }
+// Carries out a whole sheet, and adds what each of its lines prints.
+pub fn hold_day(text: &[u8], printed: &mut Printout) -> anyhow::Result<()>
+    ensures { OnOk result (shown printed.new ≡ followed_by (shown printed.old) (sheet_printed text.now)) }
 {
-    let ready = set_up(heap, text, printed)?;
-    let read = trade_on(heap, &ready, printed)?;
-    Ok(ready.all_read && read)
+    let ready = set_up(text, printed)?;
+    trade_on(&ready, printed)
 }

@@ -1,7 +1,8 @@
-ghost use Rattle.std.specs.Prelude.{◌≡◌, Some};
+ghost use Rattle.std.specs.Prelude.{◌≡◌, ◌||◌, Some, Ok, nat_lt};
 ghost use Rattle.records.specs.Registers.{replaced};
 ghost use Rattle.sheet.specs.Faults.{told};
-ghost use Rattle.desk.specs.Settings.{unset, set_memory, set_limit, set_pledge, set_margin, with_entry};
+ghost use Rattle.sheet.specs.declared.fault.Fault.TheVariants.{OutOfRange};
+ghost use Rattle.desk.specs.Settings.{unset, unless, choosing, set_memory, set_limit, set_pledge, set_margin, with_entry};
 
 use crate::host::{CentreKind, Host};
 use sheet::fault::Fault;
@@ -11,13 +12,25 @@ use sheet::set_up::SetUp;
 // The most places that a host lends for orders, and for trades.
 const MOST_PLACES: u64 = 65_536;
 
-const LARGEST_LIMIT: u32 = 1_000_000;
+const LARGEST_LIMIT: u64 = 1_000_000;
 
 const LARGEST_PLEDGE: u64 = 1_000_000_000_000;
 
 const LARGEST_MARGIN: u64 = 1_000_000_000;
 
-// Enters a value in the place of a number; a number without a place enters nothing.
+// The value of this key, if it is in its range.
+fn within<'l>(value: u64, least: u64, most: u64, key: Key) -> Result<u64, Fault<&'l [u8]>>
+    ensures { told result ≡ unless (nat_lt value least || nat_lt most value) (OutOfRange key) (Ok value) }
+{
+    if (least..=most).contains(&value) {
+        Ok(value)
+    } else {
+        Err(Fault::OutOfRange(key))
+    }
+}
+
+// Enters a value in the place of a number; a number without a place enters nothing. By a tested index, since a slice's
+// `get_mut` does not tell what the slice holds then.
 fn enter(table: &mut [Option<u64>], number: u32, value: u64)
     ensures { table.new ≡ replaced table.old number (Some value) }
 {
@@ -35,7 +48,7 @@ impl Host {
         Host {
             order_places: 4_096,
             trade_places: 8_192,
-            centre: CentreKind::NotChosen,
+            centre: None,
             limits: [None; 32],
             pledges: [None; 64],
             margins: [None; 32],
@@ -45,57 +58,50 @@ impl Host {
     fn with_memory<'l>(mut self, orders: u64, trades: u64) -> Result<Host, Fault<&'l [u8]>>
         ensures { told result ≡ set_memory self orders trades }
     {
-        if orders > MOST_PLACES {
-            return Err(Fault::OutOfRange(Key::Orders));
-        }
-        if trades > MOST_PLACES {
-            return Err(Fault::OutOfRange(Key::Trades));
-        }
-        self.order_places = orders as usize;
-        self.trade_places = trades as usize;
+        self.order_places = within(orders, 0, MOST_PLACES, Key::Orders)? as usize;
+        self.trade_places = within(trades, 0, MOST_PLACES, Key::Trades)? as usize;
         Ok(self)
     }
 
-    fn with_limit<'l>(mut self, contract: u32, limit: u32) -> Result<Host, Fault<&'l [u8]>>
+    // The same with this centre chosen, unless it is the other one that is.
+    fn choosing<'l>(self, centre: CentreKind) -> Result<Host, Fault<&'l [u8]>>
+        ensures { told result ≡ choosing centre self }
+    {
+        if self.centre.is_some_and(|chosen| chosen != centre) {
+            return Err(Fault::TwoCentres);
+        }
+        Ok(Host {
+            centre: Some(centre),
+            ..self
+        })
+    }
+
+    fn with_limit<'l>(self, contract: u32, limit: u32) -> Result<Host, Fault<&'l [u8]>>
         ensures { told result ≡ set_limit self contract limit }
     {
-        if limit > LARGEST_LIMIT {
-            return Err(Fault::OutOfRange(Key::Limit));
-        }
-        if let CentreKind::Pledge = self.centre {
-            return Err(Fault::TwoCentres);
-        }
-        self.centre = CentreKind::Lots;
-        enter(&mut self.limits, contract, u64::from(limit));
-        Ok(self)
+        let limit = within(u64::from(limit), 0, LARGEST_LIMIT, Key::Limit)?;
+        let mut host = self.choosing(CentreKind::Lots)?;
+        enter(&mut host.limits, contract, limit);
+        Ok(host)
     }
 
-    fn with_pledge<'l>(mut self, account: u32, amount: u64) -> Result<Host, Fault<&'l [u8]>>
+    // Not one with `with_margin`: the table that is entered would have to be handed in, which is no shorter.
+    fn with_pledge<'l>(self, account: u32, amount: u64) -> Result<Host, Fault<&'l [u8]>>
         ensures { told result ≡ set_pledge self account amount }
     {
-        if amount > LARGEST_PLEDGE {
-            return Err(Fault::OutOfRange(Key::Amount));
-        }
-        if let CentreKind::Lots = self.centre {
-            return Err(Fault::TwoCentres);
-        }
-        self.centre = CentreKind::Pledge;
-        enter(&mut self.pledges, account, amount);
-        Ok(self)
+        let amount = within(amount, 0, LARGEST_PLEDGE, Key::Amount)?;
+        let mut host = self.choosing(CentreKind::Pledge)?;
+        enter(&mut host.pledges, account, amount);
+        Ok(host)
     }
 
-    fn with_margin<'l>(mut self, contract: u32, amount: u64) -> Result<Host, Fault<&'l [u8]>>
+    fn with_margin<'l>(self, contract: u32, amount: u64) -> Result<Host, Fault<&'l [u8]>>
         ensures { told result ≡ set_margin self contract amount }
     {
-        if amount < 1 || amount > LARGEST_MARGIN {
-            return Err(Fault::OutOfRange(Key::Amount));
-        }
-        if let CentreKind::Lots = self.centre {
-            return Err(Fault::TwoCentres);
-        }
-        self.centre = CentreKind::Pledge;
-        enter(&mut self.margins, contract, amount);
-        Ok(self)
+        let amount = within(amount, 1, LARGEST_MARGIN, Key::Amount)?;
+        let mut host = self.choosing(CentreKind::Pledge)?;
+        enter(&mut host.margins, contract, amount);
+        Ok(host)
     }
 
     // The same with one more set-up entry carried out, or why it cannot be.

@@ -50,7 +50,7 @@ list_contract_by_grounds t s =
 some_account : (t : AccountTerms) → Decides (is_some (account_of t)) (AccountInRange t)
 some_account t =
     Decides-at (is_some (account_of t)) (account_in_range t)
-    (some_made (account_in_range t) (λ e. record { holder = record { terms = t; ranges = e }; positions = replicate 32 (pos 0); money = pos 0 }))
+    (some_made (account_in_range t) (λ e. record { holder = record { terms = t; ranges = e }; positions = replicate 32 (pos 0); money = pos 0; wide = refl }))
     (decides_account t)
 
 pub admit_account_by_grounds : (t : AccountTerms) (s : State) (r : Result ℕ Refusal) → r ≡ (admit_account t s).answer → ByTheGrounds (order admit_account_call) (AdmitAccountStrikes t s) r

@@ -1,6 +1,7 @@
 -- The law of the grounds, for any list of checks: the first that strikes is answered.
 use Rattle.std.proofs.Common.{◌≡◌, ℕ, true, false, List, [], ◌∷◌, is_ok, Some, None, Err, Option, Result, sym, refl, ap, ◌∙◌, subst, inl, inr, ⊎_elim, arith}
 use Rattle.std.proofs.lemmas.Bool.{both_ways}
+use Rattle.std.proofs.lemmas.Option.{none-some}
 use Rattle.market.specs.Calls.{decided}
 use Rattle.market.specs.Grounds.{Stands, Before, First, ByTheGrounds, first_struck}
 use Rattle.market.specs.Refusals.{ground}
@@ -30,16 +31,10 @@ before_stands [] m n b = b
 before_stands (x ∷ xs) m n (inl b) = inr b.1
 before_stands (x ∷ xs) m n (inr b) = inr (before_stands xs m n b)
 
-never_some : (g : Refusal) → ◌≡◌ {A = Option Refusal} None (Some g) → ⊥
-never_some g e = let z : ◌≡◌ {A = ℕ} 0 1 = cc in omega arith
-
-never_none : (g : Refusal) → ◌≡◌ {A = Option Refusal} (Some g) None → ⊥
-never_none g e = let z : ◌≡◌ {A = ℕ} 0 1 = cc in omega arith
-
 module _ (Strikes : Refusal → Type 0) where
   -- the first that a check tells strikes first
   told : (ns : List ℕ) (checks : List (Option Refusal)) → Each Strikes ns checks → Apart ns → (g : Refusal) → first_struck checks ≡ Some g → Stands (ground g) ns × First ns Strikes g
-  told [] [] each apart g e = absurd (never_some g e)
+  told [] [] each apart g e = absurd (none-some g e)
   told [] (check ∷ checks) each apart g e = absurd each
   told (n ∷ ns) [] each apart g e = absurd each
   told (n ∷ ns) (None ∷ checks) each apart g e =
@@ -66,7 +61,7 @@ module _ (Strikes : Refusal → Type 0) where
   clear (n ∷ ns) [] each e g at s = each
   clear (n ∷ ns) (None ∷ checks) each e g (inl is) s = each.0.passed refl g is s
   clear (n ∷ ns) (None ∷ checks) each e g (inr at) s = clear ns checks each.1 e g at s
-  clear (n ∷ ns) (Some h ∷ checks) each e g at s = never_none h e
+  clear (n ∷ ns) (Some h ∷ checks) each e g at s = none-some h (sym e)
 
   free : (ns : List ℕ) (checks : List (Option Refusal)) → Each Strikes ns checks → ((g : Refusal) → Strikes g → ⊥) → first_struck checks ≡ None
   free [] [] each none = refl

@@ -1,4 +1,6 @@
+pub mod Entered
 pub mod Grounded
+pub mod Kept
 pub mod Law
 pub mod Made
 pub mod Rows

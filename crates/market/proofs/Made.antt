@@ -1,7 +1,8 @@
 -- The record that code makes of terms is the one that the definitions name.
-use Rattle.std.proofs.Common.{◌≡◌, Bool, true, false, List, replicate, ℤ, pos, is_some, IfSome, Some, None, Option, refl, ap, ◌∙◌, subst}
-use mathlib.Core.Bool.{Bool-set}
+use Rattle.std.proofs.Common.{◌≡◌, Bool, true, false, replicate, pos, is_some, IfSome, Some, None, Option, refl, ap, ◌∙◌, subst}
+use Rattle.std.proofs.Math.Bool.{Bool-set}
 use Rattle.std.proofs.lemmas.Bool.{both_ways}
+use Rattle.books.proofs.Holdings.{same_account}
 use Rattle.records.specs.Ranges.{contract_in_range, instrument_in_range, account_in_range}
 use Rattle.records.specs.declared.account.Account.{Account}
 use Rattle.records.specs.declared.contract.Contract.{Contract}
@@ -47,11 +48,8 @@ same_holder h t is =
 pub account_made : (t : AccountTerms) (r : Option Account) → is_some r ≡ account_in_range t → IfSome r (λ a. (a.holder.terms ≡ t) × (a.positions ≡ replicate 32 (pos 0)) × (a.money ≡ pos 0)) → r ≡ account_of t
 account_made t None e is = made_is (account_in_range t) _ None e tt
 account_made t (Some a) e is =
-    let F : Holder → List ℤ → ℤ → Account = λ h ps m. record { holder = h; positions = ps; money = m } in
     made_is (account_in_range t) _ (Some a) e
-    (λ p. ap (λ h. F h a.positions a.money) (same_holder a.holder t is.0 p)
-    ∙ ap (λ ps. F (record { terms = t; ranges = p }) ps a.money) is.1
-    ∙ ap (F (record { terms = t; ranges = p }) (replicate 32 (pos 0))) is.2)
+    (λ p. ap (λ h. record { holder = h; positions = a.positions; money = a.money; wide = a.wide }) (same_holder a.holder t is.0 p) ∙ same_account _ _ _ _ _ _ _ is.1 is.2)
 
 -- there is a record exactly where the test allows it
 pub some_made : {X : Type 0} (test : Bool) (make : test ≡ true → X) → is_some (made_if test make) ≡ test

@@ -1,9 +1,10 @@
 -- Each check of a call that enters a record or changes the phase strikes exactly where its ground does.
-use Rattle.std.proofs.Common.{◌≡◌, ℕ, ◌≤◌, Bool, true, false, not, leb, [], ◌∷◌, ℤ, pos, neg_ℤ, ◌≤ℤ◌, Some, None, Decides, Option, sym, refl, ap, ◌∙◌, subst, inl, inr, arith}
-use lib.Signed.{le_z}
+use Rattle.std.proofs.Common.{◌≡◌, ℕ, Bool, true, false, not, leb, [], ◌∷◌, ℤ, pos, neg_ℤ, ◌≤ℤ◌, Some, None, Decides, Option, sym, refl, ap, ◌∙◌, subst, inl, inr, arith}
+use Rattle.std.specs.Int.Signed.{le_z}
 use Rattle.std.proofs.lemmas.Int.{ints}
-use Rattle.std.proofs.lemmas.Bool.{both_ways, leb-true, le-leb}
+use Rattle.std.proofs.lemmas.Bool.{both_ways}
 use Rattle.std.proofs.lemmas.Bool.Decides.{Decides-and, Decides-like}
+use Rattle.records.proofs.Deciding.{decides_leb, decides_le_ℤ}
 use Rattle.records.specs.Ranges.{between, absent_or_between, price_in_range, bounds_in_order, prices_in_order, contract_in_range, instrument_in_range, account_in_range}
 use Rattle.records.specs.declared.codes.Phase.{Phase}
 use Rattle.records.specs.declared.codes.Phase.TheVariants.{Suspended, Trading}
@@ -18,14 +19,8 @@ use Rattle.market.specs.declared.refusal.Refusal.{Refusal}
 use Rattle.market.specs.declared.refusal.Refusal.TheVariants.{WrongPhase, Unknown, Inadmissible, PastLastDay, OutOfBounds, Full, OverLimit, OwnOrder, AnotherAccount, NotActive}
 use Rattle.market.proofs.Law.{Checks, Each}
 
-decides_leb : (a b : ℕ) → Decides (leb a b) (a ≤ b)
-decides_leb a b = (leb-true a b, le-leb a b)
-
 decides_between : (low high n : ℕ) → Decides (between low high n) (Between low high n)
 decides_between low high n = Decides-and (leb low n) (leb n high) (decides_leb low n) (decides_leb n high)
-
-decides_le_ℤ : (a b : ℤ) → Decides (le_z a b) (a ≤ℤ b)
-decides_le_ℤ a b = (λ h. grind (arith, ints), λ h. grind (arith, ints))
 
 decides_price : (p : ℤ) → Decides (price_in_range p) (Price p)
 decides_price p = Decides-and (le_z (neg_ℤ (pos 1000000)) p) (le_z p (pos 1000000)) (decides_le_ℤ (neg_ℤ (pos 1000000)) p) (decides_le_ℤ p (pos 1000000))

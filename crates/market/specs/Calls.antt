@@ -102,6 +102,11 @@ abbrev pub enter : {T : Type 0} → ℕ → List T → (List T → State → Sta
 enter most records put had s =
     decided (first_struck (entry_checks s.phase (is_some had) most (length records))) (length records + 1) (put (records ++ option_to_list had) s) s
 
+-- what entering a record in a table answers, and what the table then holds
+pub record Enters {T : Type 0} (phase : Phase) (most : ℕ) (had : Option T) (before after : List T) (answer : Result ℕ Refusal) : Type 0 where
+  pub taken : first_struck (entry_checks phase (is_some had) most (length before)) ≡ None → (answer ≡ Ok (length before + 1)) × (after ≡ before ++ option_to_list had)
+  pub struck : (g : Refusal) → first_struck (entry_checks phase (is_some had) most (length before)) ≡ Some g → (answer ≡ Err g) × (after ≡ before)
+
 abbrev pub enter_contract : Option Contract → State → Outcome ℕ
 enter_contract had s = enter 32 s.contracts with_contracts had s
 
@@ -141,10 +146,19 @@ list_instrument rule t s = enter_instrument (listable rule s.contracts t) s
 abbrev pub admit_account : AccountTerms → State → Outcome ℕ
 admit_account t s = enter_account (account_of t) s
 
+-- whether two phases are the same
+abbrev pub same_phase : Phase → Phase → Bool
+same_phase Trading phase = is_trading phase
+same_phase Suspended phase = not (is_trading phase)
+
+-- the market is then in this phase, if it was not
+abbrev pub turned_to : Phase → State → Outcome (Unit {0})
+turned_to phase s = decided (first_struck (strike_if (same_phase phase s.phase) WrongPhase ∷ [])) tt (with_phase phase s) s
+
 -- resume: the market is then trading
 abbrev pub resume : State → Outcome (Unit {0})
-resume s = decided (first_struck (strike_if (is_trading s.phase) WrongPhase ∷ [])) tt (with_phase Trading s) s
+resume s = turned_to Trading s
 
 -- suspend: the market is then suspended
 abbrev pub suspend : State → Outcome (Unit {0})
-suspend s = decided (first_struck (strike_if (not (is_trading s.phase)) WrongPhase ∷ [])) tt (with_phase Suspended s) s
+suspend s = turned_to Suspended s

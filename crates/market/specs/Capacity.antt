@@ -1,7 +1,6 @@
 -- How many orders a market can register, and a row that is read where there is none.
 use Rattle.std.specs.Prelude.{ℕ, ◌+◌, ◌/◌, min, length, pos, None}
 use Rattle.records.specs.Registers.{listed, unused}
-use Rattle.records.specs.declared.codes.Ending.TheVariants.{NotEnded}
 use Rattle.records.specs.declared.register.Register.{Register}
 use Rattle.records.specs.declared.rows.OrderRow.{OrderRow}
 
@@ -22,5 +21,5 @@ blank =
       filled = 0;
       remaining = 0;
       withdrawn = 0;
-      ending = NotEnded;
+      ending = None;
     }

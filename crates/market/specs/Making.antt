@@ -22,4 +22,4 @@ instrument_of t = made_if (instrument_in_range t) (λ e. record { terms = t; ran
 -- an account begins with a position of nought in each of 32 contracts, and without money
 abbrev pub account_of : AccountTerms → Option Account
 account_of t =
-    made_if (account_in_range t) (λ e. record { holder = record { terms = t; ranges = e }; positions = replicate 32 (pos 0); money = pos 0 })
+    made_if (account_in_range t) (λ e. record { holder = record { terms = t; ranges = e }; positions = replicate 32 (pos 0); money = pos 0; wide = refl })

@@ -1,7 +1,7 @@
 -- What each question tells; an unknown number gets its ground.
 use Rattle.std.specs.Prelude.{◌≡◌, ℕ, List, length, ℤ, Some, None, Ok, Err, Option, Result, MatchResult}
 use Rattle.std.specs.Option.{ok_or}
-use Rattle.books.specs.Accounts.{holding}
+use Rattle.records.specs.Accounts.{holding}
 use Rattle.records.specs.Orders.{row_of}
 use Rattle.records.specs.Registers.{numbered}
 use Rattle.records.specs.declared.account.Account.{Account}

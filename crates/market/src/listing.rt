@@ -1,12 +1,12 @@
-ghost use Rattle.std.specs.Prelude.{◌≡◌, ◌≤◌, true, false, ◌&&◌, is_some, is_ok, Some, None};
+ghost use Rattle.std.specs.Prelude.{◌≡◌, ◌^◌, ◌<◌, ◌≤◌, true, false, ◌&&◌, is_some, is_ok, Some, None};
 ghost use Rattle.records.specs.Registers.{numbered};
-ghost use Rattle.market.specs.Calls.{absent_or_listed, may_be_listed, listable as listable_in, Enterable, enter_contract as enter_contract_of, enter_instrument as enter_instrument_of, enter_account as enter_account_of, list_contract as list_contract_of, list_instrument as list_instrument_of, admit_account as admit_account_of};
+ghost use Rattle.market.specs.Calls.{absent_or_listed, may_be_listed, listable as listable_in, Enterable, Enters, enter_contract as enter_contract_of, enter_instrument as enter_instrument_of, enter_account as enter_account_of, list_contract as list_contract_of, list_instrument as list_instrument_of, admit_account as admit_account_of};
 ghost use Rattle.market.specs.Grounds.{ByTheGrounds, order, list_contract_call, list_instrument_call, admit_account_call};
 ghost use Rattle.market.specs.Strikes.{ListContractStrikes, ListInstrumentStrikes, AdmitAccountStrikes};
 ghost use Rattle.market.specs.Views.{view, HasOutcome};
+ghost use Rattle.tables.specs.Tables.{entered};
 
 use crate::market::Market;
-use crate::phases::is_trading;
 use crate::refusal::Refusal;
 use records::account::Account;
 use records::codes::Phase;
@@ -16,10 +16,7 @@ use records::numbering::record_of;
 use records::terms::{AccountTerms, ContractTerms, InstrumentTerms};
 use rulebook::centre::ClearingCentre;
 use rulebook::rule::InstrumentRule;
-
-const MOST_CONTRACTS: usize = 32;
-
-const MOST_INSTRUMENTS: usize = 64;
+use tables::table::Table;
 
 const MOST_ACCOUNTS: usize = 64;
 
@@ -28,7 +25,7 @@ const MOST_ACCOUNTS: usize = 64;
 fn enterable<T: Copy>(phase: Phase, had: Option<T>, most: usize, count: usize) -> Result<T, Refusal>
     ensures { Enterable phase had most count result }
 {
-    if is_trading(phase) {
+    if phase == Phase::Trading {
         return Err(Refusal::WrongPhase);
     }
     let new = had.ok_or(Refusal::Inadmissible)?;
@@ -48,10 +45,7 @@ fn is_listed(contracts: &[Contract], number: u32) -> bool
 fn is_absent_or_listed(contracts: &[Contract], number: Option<u32>) -> bool
     ensures { result ≡ absent_or_listed contracts.now number }
 {
-    match number {
-        Some(number) => is_listed(contracts, number),
-        None => true,
-    }
+    number.is_none_or(|number| is_listed(contracts, number))
 }
 
 // Whether an instrument's contracts are listed and the rule admits it among the listed contracts.
@@ -82,41 +76,48 @@ fn listable<R: InstrumentRule>(
     Some(instrument)
 }
 
+// Enters a record in its table and answers its number, or the first ground that strikes.
+fn enter_in<T: Copy, const N: usize>(
+    phase: Phase,
+    table: &mut Table<T, N>,
+    had: Option<T>,
+) -> Result<u32, Refusal>
+    requires { N < 2 ^ 32 }
+    ensures enters { Enters phase N had (entered table.old) (entered table.new) result }
+    ensures unchanged { is_ok result ≡ false → table.new ≡ table.old }
+{
+    let new = enterable(phase, had, N, table.len())?;
+    let number = table.enter(new).ok_or(Refusal::Full)?;
+    Ok(number as u32)
+}
+
 impl Market<'_> {
     fn enter_contract(&mut self, had: Option<Contract>) -> Result<u32, Refusal>
         ensures outcome { HasOutcome self.old self.new result (enter_contract_of had (view self.old)) }
         ensures unchanged { is_ok result ≡ false → self.new ≡ self.old }
     {
-        let contract = enterable(self.phase, had, MOST_CONTRACTS, self.contracts.len())?;
-        match self.contracts.enter(contract) {
-            Some(number) => Ok(number as u32),
-            None => Err(Refusal::Full),
-        }
+        enter_in(self.phase, &mut self.contracts, had)
     }
 
     fn enter_instrument(&mut self, had: Option<Instrument>) -> Result<u32, Refusal>
         ensures outcome { HasOutcome self.old self.new result (enter_instrument_of had (view self.old)) }
         ensures unchanged { is_ok result ≡ false → self.new ≡ self.old }
     {
-        let instrument = enterable(self.phase, had, MOST_INSTRUMENTS, self.instruments.len())?;
-        match self.instruments.enter(instrument) {
-            Some(number) => Ok(number as u32),
-            None => Err(Refusal::Full),
-        }
+        enter_in(self.phase, &mut self.instruments, had)
     }
 
+    // The ledger is no table to its callers, since it books too, so accounts are entered here.
     fn enter_account(&mut self, had: Option<Account>) -> Result<u32, Refusal>
         ensures outcome { HasOutcome self.old self.new result (enter_account_of had (view self.old)) }
         ensures unchanged { is_ok result ≡ false → self.new ≡ self.old }
     {
         let account = enterable(self.phase, had, MOST_ACCOUNTS, self.accounts.len())?;
-        match self.accounts.admit(account) {
-            Some(number) => Ok(number as u32),
-            None => Err(Refusal::Full),
-        }
+        let number = self.accounts.admit(account).ok_or(Refusal::Full)?;
+        Ok(number as u32)
     }
 
-    // Lists a contract and answers its number.
+    // Lists a contract and answers its number. Rule and centre are shown to this call and to every other as they are: a host may
+    // show others at each, and a struct of both would say no more.
     pub fn list_contract<R: InstrumentRule, C: ClearingCentre>(
         &mut self,
         _rule: &R,

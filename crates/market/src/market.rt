@@ -1,6 +1,5 @@
 ghost use Rattle.std.specs.Prelude.{◌≡◌, ℕ, ◌<◌, ◌≤◌, true, length, slice_index_or};
-ghost use Rattle.books.specs.Ledgers.{Few, Long, WideAccounts};
-ghost use Rattle.records.specs.Registers.{Fits, listed};
+ghost use Rattle.records.specs.Registers.{listed};
 ghost use Rattle.records.specs.Rows.{sound};
 ghost use Rattle.market.specs.Capacity.{capacity_of, places, blank};
 
@@ -25,12 +24,6 @@ pub struct Market<'a> {
     pub(crate) trades: TradeRegister<'a>,
     // the capacity is the least of 4,096, the order places, and half the trade places
     ghost capped: { capacity ≡ capacity_of (places orders) (places trades) },
-    // there are no more records than places
-    ghost orders_fit: { Fits orders },
-    ghost trades_fit: { Fits trades },
-    ghost accounts_few: { Few accounts },
-    ghost accounts_long: { Long accounts },
-    ghost accounts_wide: { WideAccounts accounts },
     // every registered order's row passes the check of an order record
     ghost rows_sound: { (k : ℕ) → k < length (listed orders) → sound (slice_index_or (listed orders) k blank) ≡ true },
 }

@@ -2,7 +2,7 @@ use records::codes::Phase;
 
 // What a market tells of itself: its phase, its date, how many orders it can register in all, and how many records of
 // each kind there are.
-#[derive(Clone, Copy)]
+#[derive(Clone, Copy, Debug, PartialEq, Eq)]
 pub struct Overview {
     pub phase: Phase,
     pub date: u32,

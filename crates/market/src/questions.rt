@@ -1,5 +1,4 @@
 ghost use Rattle.std.specs.Prelude.{◌≡◌};
-ghost use Rattle.books.specs.Accounts.{holding};
 ghost use Rattle.market.specs.Questions.{record_told, position_told, money_told, OrderTold, overview as overview_of};
 ghost use Rattle.market.specs.Views.{view};
 
@@ -9,17 +8,10 @@ use crate::refusal::Refusal;
 use records::account::Account;
 use records::contract::Contract;
 use records::instrument::Instrument;
-use records::numbering::record_of;
 use records::order::Order;
 use records::rows::Trade;
 
-// The lots that an account is long or short in a contract.
-fn lots_in(account: &Account, contract: u32) -> i64
-    ensures { result ≡ holding account.now contract }
-{
-    record_of(&account.positions, contract as usize).unwrap_or(0)
-}
-
+// A question for each kind of record: the one line of each differs in the table that it asks.
 impl Market<'_> {
     // The contract of this number.
     pub fn contract(&self, number: u32) -> Result<Contract, Refusal>
@@ -50,7 +42,7 @@ impl Market<'_> {
     {
         let holder = self.account(account)?;
         let _ = self.contract(contract)?;
-        Ok(lots_in(&holder, contract))
+        Ok(holder.lots_in(contract as usize))
     }
 
     // An account's money.
@@ -66,7 +58,7 @@ impl Market<'_> {
         ensures { OrderTold (view self.now) number result }
     {
         let row = self.orders.get(number as usize).ok_or(Refusal::Unknown)?;
-        Ok(Order::from_row(row).unwrap())
+        Ok(Order::try_from(row).unwrap())
     }
 
     // The trade of this number.

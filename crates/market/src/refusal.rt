@@ -1,8 +1,11 @@
-ghost use Rattle.std.specs.Prelude.{◌≡◌};
+ghost use Rattle.std.specs.Prelude.{◌≡◌, Some};
 ghost use Rattle.market.specs.Refusals.{ground, words};
 
+use std::error::Error;
+use std::fmt;
+
 // Why a call or a question was turned away: a case for each of the numbered grounds.
-#[derive(Clone, Copy)]
+#[derive(Clone, Copy, Debug, PartialEq, Eq)]
 pub enum Refusal {
     // the call does not go with the market's phase
     WrongPhase,
@@ -26,12 +29,12 @@ pub enum Refusal {
     NotActive,
 }
 
-impl Refusal {
-    // The ground's number.
-    pub fn number(self) -> u32
-        ensures { result ≡ ground self }
-    {
-        match self {
+// The ground's number.
+impl From<Refusal> for u32 {
+    ghost from_gives = { λ refusal n. n ≡ ground refusal };
+
+    fn from(refusal: Refusal) -> u32 {
+        match refusal {
             Refusal::WrongPhase => 1,
             Refusal::Unknown => 2,
             Refusal::Inadmissible => 3,
@@ -44,8 +47,10 @@ impl Refusal {
             Refusal::NotActive => 10,
         }
     }
+}
 
-    // The ground in words for a person.
+impl Refusal {
+    // The ground in words for a person. It stands beside `Display`, since it cannot fail.
     pub fn message(self) -> &'static str
         ensures { result.now ≡ words self }
     {
@@ -63,3 +68,13 @@ impl Refusal {
         }
     }
 }
+
+impl fmt::Display for Refusal {
+    ghost output = { λ refusal. Some (words refusal) };
+
+    fn fmt<W: fmt::Write>(&self, f: &mut fmt::Formatter<W>) -> fmt::Result {
+        f.write_str(self.message())
+    }
+}
+
+impl Error for Refusal {}

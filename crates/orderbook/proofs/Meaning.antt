@@ -1,8 +1,8 @@
 -- What reading through chooses is the best opposite order, and there is none where it finds none.
-use Rattle.std.proofs.Common.{◌≡◌, ℕ, zero, suc, ◌+◌, ◌<◌, true, false, ltb, ◌⊎◌, List, [], ◌∷◌, length, get_or, ℤ, ◌<ℤ◌, Some, None, Option, sym, refl, ap, ◌∙◌, subst, inl, inr, ⊎_elim, arith}
+use Rattle.std.proofs.Common.{◌≡◌, ℕ, zero, suc, ◌+◌, ◌<◌, true, false, ltb, ◌⊎◌, List, length, get_or, ℤ, ◌<ℤ◌, Some, None, Option, sym, ap, ◌∙◌, subst, inl, inr, ⊎_elim, arith}
 use Rattle.std.proofs.lemmas.Int.{ints}
 use Rattle.std.proofs.lemmas.Bool.{both_ways, ltb-true, lt-ltb, and_parts, and_from}
-use Rattle.std.specs.List.{slice_get}
+use Rattle.std.proofs.lemmas.Option.{slice_get-get_or, slice_get_within, get_or_from_slice_get}
 use Rattle.records.specs.Codes.{direction_of}
 use Rattle.records.specs.Registers.{numbered}
 use Rattle.records.specs.declared.account.Account.{Account}
@@ -15,19 +15,9 @@ use Rattle.orderbook.specs.Tests.{opposite}
 use Rattle.orderbook.proofs.Chosen.{Chosen, is_chosen, not_itself}
 use Rattle.orderbook.proofs.Deciding.{decides_test}
 
-nth_at : {X : Type 0} (xs : List X) (k : ℕ) (d : X) → k < length xs → slice_get xs k ≡ Some (get_or xs k d)
-nth_at [] k d h = absurd (omega arith)
-nth_at (x ∷ xs) zero d h = refl
-nth_at (x ∷ xs) (suc k) d h = nth_at xs k d (omega arith)
-
-nth_is : {X : Type 0} (xs : List X) (k : ℕ) (d x : X) → slice_get xs k ≡ Some x → (k < length xs) × (get_or xs k d ≡ x)
-nth_is [] k d x e = let z : ◌≡◌ {A = ℕ} 0 1 = cc in absurd (omega arith)
-nth_is (y ∷ ys) zero d x e = (omega arith, cc)
-nth_is (y ∷ ys) (suc k) d x e = let r = nth_is ys k d x e in (omega (arith, r.0), r.1)
-
 -- the order of a number
 at_number : {X : Type 0} (xs : List X) (k : ℕ) (d : X) → k < length xs → numbered xs (k + 1) ≡ Some (get_or xs k d)
-at_number xs k d h = subst (λ n. numbered xs n ≡ Some (get_or xs k d)) (one_more k) (nth_at xs k d h)
+at_number xs k d h = subst (λ n. numbered xs n ≡ Some (get_or xs k d)) (one_more k) (slice_get-get_or xs k d h)
   where
     one_more : (k : ℕ) → suc k ≡ k + 1
     one_more k = omega arith
@@ -62,13 +52,13 @@ module _ (accounts : List Account) (me : OrderRow) (rows : List OrderRow) where
   unfolding opposite
   placed zero row c = let e = c.known in let z : ◌≡◌ {A = ℕ} 0 1 = cc in absurd (omega arith)
   placed (suc k) row c =
-      let r = nth_is rows k blank row c.known in
+      let is = get_or_from_slice_get rows k row blank c.known in
       record {
         place = k;
         number = omega arith;
-        within = r.0;
-        is = r.1;
-        passes = subst (λ x. candidate accounts me x ≡ true) (sym r.1) (and_from (ltb 0 row.remaining) _ (lt-ltb 0 row.remaining c.active) ((decides_test accounts me row).1 c.opposite));
+        within = slice_get_within rows k row c.known;
+        is = is;
+        passes = subst (λ x. candidate accounts me x ≡ true) (sym is) (and_from (ltb 0 row.remaining) _ (lt-ltb 0 row.remaining c.active) ((decides_test accounts me row).1 c.opposite));
       }
 
   best_found : (k : ℕ) → Chosen accounts me rows (length rows) (Some k) → Best accounts rows me (k + 1)

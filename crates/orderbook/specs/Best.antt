@@ -4,7 +4,6 @@ use Rattle.records.specs.Codes.{direction_of}
 use Rattle.records.specs.declared.account.Account.{Account}
 use Rattle.records.specs.declared.codes.Direction.{Direction}
 use Rattle.records.specs.declared.codes.Direction.TheVariants.{Buy, Sell}
-use Rattle.records.specs.declared.codes.Ending.TheVariants.{NotEnded}
 use Rattle.records.specs.declared.rows.OrderRow.{OrderRow}
 use Rattle.orderbook.specs.Tests.{opposite}
 
@@ -17,7 +16,7 @@ blank =
       filled = 0;
       remaining = 0;
       withdrawn = 0;
-      ending = NotEnded;
+      ending = None;
     }
 
 -- a price is better than another in this direction

@@ -11,21 +11,23 @@ use records::rows::OrderRow;
 fn is_better(me: &OrderRow, x: &OrderRow, y: &OrderRow) -> bool
     ensures { result ≡ better me.now x.now y.now }
 {
-    match Direction::from_code(me.ticket.direction) {
-        Some(Direction::Buy) => x.ticket.price < y.ticket.price,
-        Some(Direction::Sell) => y.ticket.price < x.ticket.price,
-        None => false,
+    match Direction::try_from(me.ticket.direction) {
+        Ok(Direction::Buy) => x.ticket.price < y.ticket.price,
+        Ok(Direction::Sell) => y.ticket.price < x.ticket.price,
+        Err(_) => false,
     }
 }
 
-// Whether an order is active and opposite to an order.
+// Whether an order is active and opposite to an order. The accounts and the order that seeks go to each function as they are:
+// a struct of both would be made anew at each call.
 fn is_candidate(accounts: &[Account], me: &OrderRow, row: &OrderRow) -> bool
     ensures { result ≡ candidate accounts.now me.now row.now }
 {
     row.is_active() && is_opposite(accounts, me, row)
 }
 
-// The place of the best opposite order, read through.
+// The place of the best opposite order, read through: the place is what is asked for, so it is kept, and a `fold` would carry
+// the same.
 fn best_place(accounts: &[Account], rows: &[OrderRow], me: &OrderRow) -> Option<usize>
     ensures { result ≡ best_below accounts.now me.now rows.now (length rows.now) }
 {
@@ -49,8 +51,6 @@ fn best_place(accounts: &[Account], rows: &[OrderRow], me: &OrderRow) -> Option<
 pub fn best_opposite(accounts: &[Account], rows: &[OrderRow], me: &OrderRow) -> Option<usize>
     ensures { BestOf accounts.now rows.now me.now result }
 {
-    match best_place(accounts, rows, me) {
-        Some(at) => Some(at + 1),
-        None => None,
-    }
+    let at = best_place(accounts, rows, me)?;
+    Some(at + 1)
 }

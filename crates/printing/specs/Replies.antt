@@ -1,9 +1,10 @@
 -- The line that is printed of a reply.
-use Rattle.std.specs.Prelude.{ℕ, List, ◌++◌, codes, decimal}
+use Rattle.std.specs.Prelude.{ℕ, List, ◌++◌, Ok, Err, codes, decimal, Result}
 use Rattle.std.specs.Fmt.{signed_decimal}
+use Rattle.market.specs.declared.refusal.Refusal.{Refusal}
 use Rattle.printing.specs.Texts.{refusal_text, contract_text, instrument_text, account_text, order_text, trade_text, overview_text}
 use Rattle.printing.specs.declared.reply.Reply.{Reply}
-use Rattle.printing.specs.declared.reply.Reply.TheVariants.{NewContract, NewInstrument, NewAccount, Done, Contract, Instrument, Account, Position, Money, Order, Trade, Market, Refused}
+use Rattle.printing.specs.declared.reply.Reply.TheVariants.{NewContract, NewInstrument, NewAccount, Done, Contract, Instrument, Account, Position, Money, Order, Trade, Market}
 
 abbrev pub reply_text : Reply → List ℕ
 reply_text (NewContract n) = codes "contract " ++ decimal n
@@ -18,8 +19,12 @@ reply_text (Money money) = signed_decimal money
 reply_text (Order o) = order_text o
 reply_text (Trade t) = trade_text t
 reply_text (Market v) = overview_text v
-reply_text (Refused g) = refusal_text g
 
--- the number of the sheet's line, the entry's name, and the reply
-abbrev pub reply_line : ℕ → List ℕ → Reply → List ℕ
-reply_line number name r = decimal number ++ (codes ": " ++ (name ++ (codes ": " ++ (reply_text r ++ codes "\n"))))
+-- the reply, or why the call or question was turned away
+abbrev pub answer_text : Result Reply Refusal → List ℕ
+answer_text (Ok r) = reply_text r
+answer_text (Err g) = refusal_text g
+
+-- the number of the sheet's line, the entry's name, and the answer
+abbrev pub reply_line : ℕ → List ℕ → Result Reply Refusal → List ℕ
+reply_line number name r = decimal number ++ (codes ": " ++ (name ++ (codes ": " ++ (answer_text r ++ codes "\n"))))

@@ -6,7 +6,7 @@ use Rattle.market.specs.declared.overview.Overview.{Overview}
 use Rattle.market.specs.declared.refusal.Refusal.{Refusal}
 use Rattle.market.specs.declared.refusal.Refusal.TheVariants.{WrongPhase, Unknown, Inadmissible, PastLastDay, OutOfBounds, Full, OverLimit, OwnOrder, AnotherAccount, NotActive}
 use Rattle.records.specs.declared.codes.Ending.{Ending}
-use Rattle.records.specs.declared.codes.Ending.TheVariants.{NotEnded, Filled, Withdrawn, Removed}
+use Rattle.records.specs.declared.codes.Ending.TheVariants.{Filled, Withdrawn, Removed}
 use Rattle.records.specs.declared.codes.Phase.{Phase}
 use Rattle.records.specs.declared.codes.Phase.TheVariants.{Suspended, Trading}
 use Rattle.records.specs.declared.rows.OrderRow.{OrderRow}
@@ -25,11 +25,11 @@ abbrev pub phase_word : Phase → List ℕ
 phase_word Suspended = codes "suspended"
 phase_word Trading = codes "trading"
 
-abbrev pub ending_word : Ending → List ℕ
-ending_word NotEnded = codes "none"
-ending_word Filled = codes "filled"
-ending_word Withdrawn = codes "withdrawn"
-ending_word Removed = codes "removed"
+abbrev pub ending_word : Option Ending → List ℕ
+ending_word None = codes "none"
+ending_word (Some Filled) = codes "filled"
+ending_word (Some Withdrawn) = codes "withdrawn"
+ending_word (Some Removed) = codes "removed"
 
 -- what stands behind the words of a ground: the contract over its limit, or the own order
 abbrev pub tail_text : Refusal → List ℕ

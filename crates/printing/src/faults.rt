@@ -1,59 +1,52 @@
-ghost use Rattle.std.specs.Prelude.{◌≡◌, ◌<◌, map, IfOk, string_bytes};
+ghost use Rattle.std.specs.Prelude.{◌≡◌, ◌<◌, map, IfOk, Some, string_bytes};
 ghost use Rattle.sheet.specs.Faults.{fault_told};
 ghost use Rattle.printing.specs.Faults.{printable, fault_text, fault_line};
 
 use sheet::fault::Fault;
 use std::alloc::{AllocError, Global};
+use std::fmt;
 
 // A byte as it is printed: a visible sign of ASCII is itself, any other a question mark.
 fn visible(byte: u8) -> u8
     ensures value { result ≡ printable byte }
     ensures ascii { result < 128 }
 {
-    if byte > 32 && byte < 127 { byte } else { b'?' }
+    if byte.is_ascii_graphic() { byte } else { b'?' }
 }
 
-// A piece of a line as it is printed.
-fn piece_text(heap: Global, piece: &[u8]) -> Result<String, AllocError>
-    ensures { IfOk result (λ text. string_bytes text ≡ map printable piece.now) }
-{
-    let mut text = String::new(heap);
-    for byte in piece {
-        text.push(char::from(visible(*byte)))?;
+// A piece of a line.
+#[derive(Clone, Copy)]
+struct Piece<'l>(&'l [u8]);
+
+impl fmt::Display for Piece<'_> {
+    ghost output = { λ p. Some (map printable p.0.now) };
+
+    fn fmt<W: fmt::Write>(&self, f: &mut fmt::Formatter<W>) -> fmt::Result {
+        for byte in self.0 {
+            let sign = char::from(visible(*byte));
+            write!(f, "{sign}")?;
+        }
+        Ok(())
     }
-    Ok(text)
 }
 
 // What is wrong with a line, in words.
-fn fault_words(heap: Global, fault: Fault<&[u8]>) -> Result<String, AllocError>
-    ensures { IfOk result (λ text. string_bytes text ≡ fault_text (fault_told fault.entry)) }
-{
-    match fault {
-        Fault::UnknownName(word) => {
-            let word = piece_text(heap, word)?;
-            format!(in heap; "unknown entry `{word}`")
-        }
-        Fault::UnknownKey(word) => {
-            let word = piece_text(heap, word)?;
-            format!(in heap; "unknown key `{word}`")
-        }
-        Fault::Repeated(key) => {
-            let key = key.name();
-            format!(in heap; "key `{key}` twice")
-        }
-        Fault::Missing(key) => {
-            let key = key.name();
-            format!(in heap; "missing key `{key}`")
-        }
-        Fault::NotANumber(key) => {
-            let key = key.name();
-            format!(in heap; "no such number for `{key}`")
-        }
-        Fault::TooLate => format!(in heap; "set-up after the first call or question"),
-        Fault::TwoCentres => format!(in heap; "set-up of two clearing centres"),
-        Fault::OutOfRange(key) => {
-            let key = key.name();
-            format!(in heap; "`{key}` out of range")
+#[derive(Clone, Copy)]
+struct FaultText<'l>(Fault<&'l [u8]>);
+
+impl fmt::Display for FaultText<'_> {
+    ghost output = { λ t. Some (fault_text (fault_told t.0)) };
+
+    fn fmt<W: fmt::Write>(&self, f: &mut fmt::Formatter<W>) -> fmt::Result {
+        match self.0 {
+            Fault::UnknownName(word) => write!(f, "unknown entry `{}`", Piece(word)),
+            Fault::UnknownKey(word) => write!(f, "unknown key `{}`", Piece(word)),
+            Fault::Repeated(key) => write!(f, "key `{}` twice", key.name()),
+            Fault::Missing(key) => write!(f, "missing key `{}`", key.name()),
+            Fault::NotANumber(key) => write!(f, "no such number for `{}`", key.name()),
+            Fault::TooLate => write!(f, "set-up after the first call or question"),
+            Fault::TwoCentres => write!(f, "set-up of two clearing centres"),
+            Fault::OutOfRange(key) => write!(f, "`{}` out of range", key.name()),
         }
     }
 }
@@ -62,6 +55,6 @@ fn fault_words(heap: Global, fault: Fault<&[u8]>) -> Result<String, AllocError>
 pub fn line_of_fault(heap: Global, number: usize, fault: Fault<&[u8]>) -> Result<String, AllocError>
     ensures { IfOk result (λ text. string_bytes text ≡ fault_line number (fault_told fault.entry)) }
 {
-    let words = fault_words(heap, fault)?;
+    let words = FaultText(fault);
     format!(in heap; "{number}: unreadable: {words}\n")
 }

@@ -1,10 +1,11 @@
 ghost use Rattle.std.specs.Prelude.{◌≡◌, IfOk, Some, string_bytes};
-ghost use Rattle.printing.specs.Replies.{reply_text, reply_line};
+ghost use Rattle.printing.specs.Replies.{reply_text, answer_text, reply_line};
 
 use crate::reply::Reply;
 use crate::texts::{
     AccountText, ContractText, InstrumentText, OrderText, OverviewText, RefusalText, TradeText,
 };
+use market::refusal::Refusal;
 use std::alloc::{AllocError, Global};
 use std::fmt;
 use std::fmt::Display;
@@ -26,20 +27,34 @@ impl fmt::Display for Reply {
             Reply::Order(order) => OrderText(order).fmt(f),
             Reply::Trade(trade) => TradeText(trade).fmt(f),
             Reply::Market(overview) => OverviewText(overview).fmt(f),
-            Reply::Refused(refusal) => RefusalText(refusal).fmt(f),
         }
     }
 }
 
-// The line that is printed of an entry: the number of its line in the sheet, its name, and the reply.
+// The reply to a call or a question, or why it was turned away.
+#[derive(Clone, Copy)]
+struct AnswerText(Result<Reply, Refusal>);
+
+impl fmt::Display for AnswerText {
+    ghost output = { λ a. Some (answer_text a.0) };
+
+    fn fmt<W: fmt::Write>(&self, f: &mut fmt::Formatter<W>) -> fmt::Result {
+        match self.0 {
+            Ok(reply) => reply.fmt(f),
+            Err(refusal) => RefusalText(refusal).fmt(f),
+        }
+    }
+}
+
+// The line that is printed of an entry: the number of its line in the sheet, its name, and the answer.
 pub fn line_of_reply(
     heap: Global,
     number: usize,
     name: &str,
-    reply: &Reply,
+    reply: &Result<Reply, Refusal>,
 ) -> Result<String, AllocError>
     ensures { IfOk result (λ text. string_bytes text ≡ reply_line number name.now reply.now) }
 {
-    let reply = *reply;
-    format!(in heap; "{number}: {name}: {reply}\n")
+    let answer = AnswerText(*reply);
+    format!(in heap; "{number}: {name}: {answer}\n")
 }

@@ -1,10 +1,9 @@
 use market::overview::Overview;
-use market::refusal::Refusal;
 use records::rows::{OrderRow, Trade};
 use records::terms::{AccountTerms, ContractTerms, InstrumentTerms};
 
-// What a call or a question was answered with.
-#[derive(Clone, Copy)]
+// What a call or a question was answered with, where it was not turned away.
+#[derive(Clone, Copy, Debug, PartialEq, Eq)]
 pub enum Reply {
     // a contract, an instrument or an account entered under this number
     NewContract(u32),
@@ -21,5 +20,4 @@ pub enum Reply {
     Order(OrderRow),
     Trade(Trade),
     Market(Overview),
-    Refused(Refusal),
 }

@@ -1,4 +1,4 @@
-ghost use Rattle.std.specs.Prelude.{◌≡◌, Some};
+ghost use Rattle.std.specs.Prelude.{Some};
 ghost use Rattle.printing.specs.Texts.{optional, phase_word, ending_word, refusal_text, prices_text, contract_text, instrument_text, account_text, ticket_text, terms_text, order_text, trade_text, counts_text, quantities_text, overview_text, tail_text};
 
 use market::overview::Overview;
@@ -23,23 +23,33 @@ impl fmt::Display for Optional {
     }
 }
 
-fn phase_name(phase: Phase) -> &'static str
-    ensures { result.now ≡ phase_word phase }
-{
-    match phase {
-        Phase::Suspended => "suspended",
-        Phase::Trading => "trading",
+#[derive(Clone, Copy)]
+struct PhaseText(Phase);
+
+impl fmt::Display for PhaseText {
+    ghost output = { λ p. Some (phase_word p.0) };
+
+    fn fmt<W: fmt::Write>(&self, f: &mut fmt::Formatter<W>) -> fmt::Result {
+        f.write_str(match self.0 {
+            Phase::Suspended => "suspended",
+            Phase::Trading => "trading",
+        })
     }
 }
 
-fn ending_name(ending: Ending) -> &'static str
-    ensures { result.now ≡ ending_word ending }
-{
-    match ending {
-        Ending::NotEnded => "none",
-        Ending::Filled => "filled",
-        Ending::Withdrawn => "withdrawn",
-        Ending::Removed => "removed",
+#[derive(Clone, Copy)]
+struct EndingText(Option<Ending>);
+
+impl fmt::Display for EndingText {
+    ghost output = { λ e. Some (ending_word e.0) };
+
+    fn fmt<W: fmt::Write>(&self, f: &mut fmt::Formatter<W>) -> fmt::Result {
+        f.write_str(match self.0 {
+            None => "none",
+            Some(Ending::Filled) => "filled",
+            Some(Ending::Withdrawn) => "withdrawn",
+            Some(Ending::Removed) => "removed",
+        })
     }
 }
 
@@ -66,10 +76,10 @@ impl fmt::Display for RefusalText {
     ghost output = { λ r. Some (refusal_text r.0) };
 
     fn fmt<W: fmt::Write>(&self, f: &mut fmt::Formatter<W>) -> fmt::Result {
-        let number = self.0.number();
-        let words = self.0.message();
+        let number = u32::from(self.0);
+        let refusal = self.0;
         let besides = Besides(self.0);
-        write!(f, "refused {number} {words}{besides}")
+        write!(f, "refused {number} {refusal}{besides}")
     }
 }
 
@@ -81,9 +91,12 @@ impl fmt::Display for Prices {
     ghost output = { λ t. Some (prices_text t.0) };
 
     fn fmt<W: fmt::Write>(&self, f: &mut fmt::Formatter<W>) -> fmt::Result {
-        let lower = self.0.lower;
-        let settlement = self.0.settlement;
-        let upper = self.0.upper;
+        let ContractTerms {
+            lower,
+            settlement,
+            upper,
+            ..
+        } = self.0;
         write!(f, "lower {lower} settlement {settlement} upper {upper}")
     }
 }
@@ -95,11 +108,14 @@ impl fmt::Display for ContractText {
     ghost output = { λ t. Some (contract_text t.0) };
 
     fn fmt<W: fmt::Write>(&self, f: &mut fmt::Formatter<W>) -> fmt::Result {
-        let underlying = self.0.underlying;
-        let last_day = self.0.last_day;
+        let ContractTerms {
+            underlying,
+            last_day,
+            w,
+            r,
+            ..
+        } = self.0;
         let prices = Prices(self.0);
-        let w = self.0.w;
-        let r = self.0.r;
         write!(
             f,
             "underlying {underlying} last-day {last_day} {prices} w {w} r {r}"
@@ -114,11 +130,14 @@ impl fmt::Display for InstrumentText {
     ghost output = { λ t. Some (instrument_text t.0) };
 
     fn fmt<W: fmt::Write>(&self, f: &mut fmt::Formatter<W>) -> fmt::Result {
-        let kind = self.0.kind;
-        let first = self.0.first;
-        let second = Optional(self.0.second);
-        let lower = self.0.lower;
-        let upper = self.0.upper;
+        let InstrumentTerms {
+            kind,
+            first,
+            second,
+            lower,
+            upper,
+        } = self.0;
+        let second = Optional(second);
         write!(
             f,
             "kind {kind} first {first} second {second} lower {lower} upper {upper}"
@@ -133,8 +152,10 @@ impl fmt::Display for AccountText {
     ghost output = { λ t. Some (account_text t.0) };
 
     fn fmt<W: fmt::Write>(&self, f: &mut fmt::Formatter<W>) -> fmt::Result {
-        let participant = self.0.participant;
-        let taxpayer = self.0.taxpayer;
+        let AccountTerms {
+            participant,
+            taxpayer,
+        } = self.0;
         write!(f, "participant {participant} taxpayer {taxpayer}")
     }
 }
@@ -147,11 +168,14 @@ impl fmt::Display for Keyed {
     ghost output = { λ t. Some (ticket_text t.0) };
 
     fn fmt<W: fmt::Write>(&self, f: &mut fmt::Formatter<W>) -> fmt::Result {
-        let account = self.0.account;
-        let instrument = self.0.instrument;
-        let direction = self.0.direction;
-        let order_type = self.0.order_type;
-        let price = self.0.price;
+        let Ticket {
+            account,
+            instrument,
+            direction,
+            order_type,
+            price,
+            ..
+        } = self.0;
         write!(
             f,
             "account {account} instrument {instrument} direction {direction} type {order_type} price {price}"
@@ -185,10 +209,14 @@ impl fmt::Display for Quantities {
     ghost output = { λ o. Some (quantities_text o.0) };
 
     fn fmt<W: fmt::Write>(&self, f: &mut fmt::Formatter<W>) -> fmt::Result {
-        let filled = self.0.filled;
-        let remaining = self.0.remaining;
-        let withdrawn = self.0.withdrawn;
-        let ending = ending_name(self.0.ending);
+        let OrderRow {
+            filled,
+            remaining,
+            withdrawn,
+            ending,
+            ..
+        } = self.0;
+        let ending = EndingText(ending);
         write!(
             f,
             "filled {filled} remaining {remaining} withdrawn {withdrawn} ending {ending}"
@@ -218,14 +246,16 @@ impl fmt::Display for TradeText {
     ghost output = { λ t. Some (trade_text t.0) };
 
     fn fmt<W: fmt::Write>(&self, f: &mut fmt::Formatter<W>) -> fmt::Result {
-        let contract = self.0.contract;
-        let quantity = self.0.quantity;
-        let price = self.0.price;
-        let buyer = self.0.buying_order;
-        let seller = self.0.selling_order;
+        let Trade {
+            contract,
+            buying_order,
+            selling_order,
+            quantity,
+            price,
+        } = self.0;
         write!(
             f,
-            "contract {contract} quantity {quantity} price {price} buyer order {buyer} seller order {seller}"
+            "contract {contract} quantity {quantity} price {price} buyer order {buying_order} seller order {selling_order}"
         )
     }
 }
@@ -238,11 +268,14 @@ impl fmt::Display for Counts {
     ghost output = { λ v. Some (counts_text v.0) };
 
     fn fmt<W: fmt::Write>(&self, f: &mut fmt::Formatter<W>) -> fmt::Result {
-        let contracts = self.0.contracts;
-        let instruments = self.0.instruments;
-        let accounts = self.0.accounts;
-        let orders = self.0.orders;
-        let trades = self.0.trades;
+        let Overview {
+            contracts,
+            instruments,
+            accounts,
+            orders,
+            trades,
+            ..
+        } = self.0;
         write!(
             f,
             "contracts {contracts} instruments {instruments} accounts {accounts} orders {orders} trades {trades}"
@@ -257,9 +290,13 @@ impl fmt::Display for OverviewText {
     ghost output = { λ v. Some (overview_text v.0) };
 
     fn fmt<W: fmt::Write>(&self, f: &mut fmt::Formatter<W>) -> fmt::Result {
-        let phase = phase_name(self.0.phase);
-        let date = self.0.date;
-        let capacity = self.0.capacity;
+        let Overview {
+            phase,
+            date,
+            capacity,
+            ..
+        } = self.0;
+        let phase = PhaseText(phase);
         let counts = Counts(self.0);
         write!(f, "{phase} date {date} capacity {capacity} {counts}")
     }

@@ -1,6 +1,6 @@
 -- Records by number, and the places of a register before and after a call.
 use Rattle.std.proofs.Common.{◌≡◌, ℕ, zero, suc, ◌+◌, ◌<◌, ◌≤◌, List, [], ◌∷◌, ◌++◌, length, get_or, take, drop, set, Some, None, sym, refl, ap, ◌∙◌, ⊎_elim, arith, length-set, length-take}
-use lib.Seq.{take-set-lt}
+use Rattle.std.proofs.Math.Seq.{take-set-lt}
 use Rattle.std.specs.List.{slice_get}
 use Rattle.std.proofs.lemmas.List.{get_or-take, take_more_set, drop-set-lt, drop-drop, length-drop, set_past}
 use Rattle.std.proofs.lemmas.Option.{slice_get-get_or, slice_get_past}
@@ -72,20 +72,11 @@ module _ {T : Type 0} (places : List T) (count : ℕ) (fits : count ≤ length p
         numbered_known (take count places) at n x is (omega (arith, listed_length)) (e ∙ sym (get_or-take count places at x within))
 
     module _ (x : T) (after : List T) (e : after ≡ set places at x) where
-      pub replaced_fits : count ≤ length after
-      replaced_fits = rw e (simp length-set fits)
-
       pub replaced_listed : take count after ≡ replaced (take count places) n x
       replaced_listed = rw e (take-set-lt count places at x within ∙ replaced_known (take count places) at n x is)
 
-      pub replaced_unused : drop count after ≡ drop count places
-      replaced_unused = rw e (drop-set-lt count places at x within)
-
   -- one more record, where a place is unused
   module _ (at number : ℕ) (is : at ≡ count) (room : at < length places) (next : number ≡ at + 1) (x : T) (after : List T) (e : after ≡ set places at x) where
-    pub entered_fits : number ≤ length after
-    entered_fits = rw e (simp length-set (omega arith))
-
     pub entered_number : number ≡ length (take count places) + 1
     entered_number = omega (arith, listed_length)
 
@@ -97,6 +88,3 @@ module _ {T : Type 0} (places : List T) (count : ℕ) (fits : count ≤ length p
 
   pub none_unused : drop count places ≡ [] → count < length places → ⊥
   none_unused e room = omega (arith, length-drop count places, ap length e)
-
-  pub some_unused : 0 < length (drop count places) → length places ≤ count → ⊥
-  some_unused h full = omega (arith, length-drop count places)

@@ -1,3 +1,4 @@
+pub mod Accounts
 pub mod Codes
 pub mod Orders
 pub mod Ranges

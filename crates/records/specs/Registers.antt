@@ -1,5 +1,5 @@
 -- A register over lent memory: the records listed, and the places not used yet.
-use Rattle.std.specs.Prelude.{◌≡◌, ℕ, zero, suc, ◌+◌, ◌≤◌, List, [], ◌∷◌, ◌++◌, length, take, drop, Some, None, Option, slice_set}
+use Rattle.std.specs.Prelude.{◌≡◌, ℕ, zero, suc, ◌+◌, List, [], ◌∷◌, ◌++◌, length, take, drop, Some, None, Option, slice_set}
 use Rattle.std.specs.List.{slice_get}
 use Rattle.records.specs.declared.register.Register.{Register}
 
@@ -14,10 +14,6 @@ unused r = drop r.count r.places.now
 -- two registers are over the same lent memory, so that what the second one holds is what its host finds there
 abbrev pub SameMemory : {T : Type 0} → Register T → Register T → Type 0
 SameMemory before after = after.places.ghost_name ≡ before.places.ghost_name
-
--- there are no more records than places, so that the places hold the records and then the unused rest
-abbrev pub Fits : {T : Type 0} → Register T → Type 0
-Fits r = r.count ≤ length r.places.now
 
 -- the record of a number, counted from 1
 abbrev pub numbered : {T : Type 0} → List T → ℕ → Option T

@@ -28,10 +28,7 @@ fn is_between(low: u32, high: u32, n: u32) -> bool
 fn is_absent_or_between(low: u32, high: u32, n: Option<u32>) -> bool
     ensures { result ≡ absent_or_between low high n }
 {
-    match n {
-        None => true,
-        Some(n) => is_between(low, high, n),
-    }
+    n.is_none_or(|n| is_between(low, high, n))
 }
 
 fn is_price(p: i32) -> bool
@@ -97,8 +94,8 @@ impl Ticket {
     pub fn fields_in_range(&self) -> bool
         ensures { result ≡ ticket_fields_in_range self.now }
     {
-        Direction::from_code(self.direction).is_some()
-            && OrderType::from_code(self.order_type).is_some()
+        Direction::try_from(self.direction).is_ok()
+            && OrderType::try_from(self.order_type).is_ok()
             && is_between(1, LARGEST_SIZE, self.size)
             && is_absent_or_between(1, LARGEST_CODE, self.addressee)
             && is_absent_or_between(1, LARGEST_CODE, self.reference)

@@ -1,8 +1,8 @@
 ghost use Rattle.std.specs.Prelude.{◌≡◌};
-ghost use Rattle.records.specs.Codes.{direction_code, type_code, ending_code, phase_code, direction_of, type_of, Reads};
+ghost use Rattle.records.specs.Codes.{direction_code, type_code, ending_code, endings_code, phase_code, direction_of, type_of, Decodes};
 
 // The side of a ticket.
-#[derive(Clone, Copy)]
+#[derive(Clone, Copy, Debug, PartialEq, Eq)]
 pub enum Direction {
     Buy,
     Sell,
@@ -10,7 +10,7 @@ pub enum Direction {
 
 // What becomes of the part of a ticket that finds no opposite order: a Limit order's rest stays, an
 // IOC (immediate or cancel) order's rest is removed, and a FOK (fill or kill) order is filled whole or removed whole.
-#[derive(Clone, Copy)]
+#[derive(Clone, Copy, Debug, PartialEq, Eq)]
 pub enum OrderType {
     Limit,
     Ioc,
@@ -18,78 +18,88 @@ pub enum OrderType {
 }
 
 // How an order came to its end: it was filled, its account withdrew the rest, or the market removed the rest.
-#[derive(Clone, Copy)]
+#[derive(Clone, Copy, Debug, PartialEq, Eq)]
 pub enum Ending {
-    NotEnded,
     Filled,
     Withdrawn,
     Removed,
 }
 
 // Whether the market takes tickets now.
-#[derive(Clone, Copy)]
+#[derive(Clone, Copy, Debug, PartialEq, Eq)]
 pub enum Phase {
     Suspended,
     Trading,
 }
 
-impl Direction {
-    // The number by which the direction is keyed.
-    pub fn code(self) -> u32
-        ensures { result ≡ direction_code self }
-    {
-        match self {
+// A number that no case of a list has.
+#[derive(Clone, Copy, Debug, PartialEq, Eq)]
+pub struct UnknownCode {
+    pub code: u32,
+}
+
+// The number by which the direction is keyed.
+impl From<Direction> for u32 {
+    ghost from_gives = { λ direction n. n ≡ direction_code direction };
+
+    fn from(direction: Direction) -> u32 {
+        match direction {
             Direction::Buy => 1,
             Direction::Sell => 2,
         }
     }
+}
 
-    // The direction keyed by this number, if there is one.
-    pub fn from_code(code: u32) -> Option<Direction>
-        ensures value { result ≡ direction_of code }
-        ensures reads { Reads direction_code code result }
-    {
+// The direction keyed by this number, if there is one.
+impl TryFrom<u32> for Direction {
+    type Error = UnknownCode;
+
+    ghost try_from_gives = { Decodes direction_code direction_of };
+
+    fn try_from(code: u32) -> Result<Direction, UnknownCode> {
         match code {
-            1 => Some(Direction::Buy),
-            2 => Some(Direction::Sell),
-            _ => None,
+            1 => Ok(Direction::Buy),
+            2 => Ok(Direction::Sell),
+            _ => Err(UnknownCode { code }),
         }
     }
 }
 
-impl OrderType {
-    // The number by which the type is keyed.
-    pub fn code(self) -> u32
-        ensures { result ≡ type_code self }
-    {
-        match self {
+// The number by which the type is keyed.
+impl From<OrderType> for u32 {
+    ghost from_gives = { λ order_type n. n ≡ type_code order_type };
+
+    fn from(order_type: OrderType) -> u32 {
+        match order_type {
             OrderType::Limit => 0,
             OrderType::Ioc => 3,
             OrderType::Fok => 4,
         }
     }
+}
 
-    // The type keyed by this number, if there is one.
-    pub fn from_code(code: u32) -> Option<OrderType>
-        ensures value { result ≡ type_of code }
-        ensures reads { Reads type_code code result }
-    {
+// The type keyed by this number, if there is one.
+impl TryFrom<u32> for OrderType {
+    type Error = UnknownCode;
+
+    ghost try_from_gives = { Decodes type_code type_of };
+
+    fn try_from(code: u32) -> Result<OrderType, UnknownCode> {
         match code {
-            0 => Some(OrderType::Limit),
-            3 => Some(OrderType::Ioc),
-            4 => Some(OrderType::Fok),
-            _ => None,
+            0 => Ok(OrderType::Limit),
+            3 => Ok(OrderType::Ioc),
+            4 => Ok(OrderType::Fok),
+            _ => Err(UnknownCode { code }),
         }
     }
 }
 
-impl Ending {
-    // The ending's number.
-    pub fn code(self) -> u32
-        ensures { result ≡ ending_code self }
-    {
-        match self {
-            Ending::NotEnded => 0,
+// The ending's number.
+impl From<Ending> for u32 {
+    ghost from_gives = { λ ending n. n ≡ ending_code ending };
+
+    fn from(ending: Ending) -> u32 {
+        match ending {
             Ending::Filled => 1,
             Ending::Withdrawn => 2,
             Ending::Removed => 3,
@@ -97,12 +107,21 @@ impl Ending {
     }
 }
 
-impl Phase {
-    // The phase's number.
-    pub fn code(self) -> u32
-        ensures { result ≡ phase_code self }
+impl Ending {
+    // The number of what became of an order: its ending's, or 0 while it has not ended.
+    pub fn code_of(ending: Option<Ending>) -> u32
+        ensures { result ≡ endings_code ending }
     {
-        match self {
+        ending.map_or(0, u32::from)
+    }
+}
+
+// The phase's number.
+impl From<Phase> for u32 {
+    ghost from_gives = { λ phase n. n ≡ phase_code phase };
+
+    fn from(phase: Phase) -> u32 {
+        match phase {
             Phase::Suspended => 0,
             Phase::Trading => 1,
         }

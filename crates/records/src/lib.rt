@@ -5,6 +5,7 @@ pub mod account;
 pub mod checks;
 pub mod codes;
 pub mod contract;
+pub mod entering;
 pub mod holder;
 pub mod instrument;
 pub mod making;

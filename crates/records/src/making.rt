@@ -1,6 +1,6 @@
-ghost use Rattle.records.specs.Orders.{row_of, MadeFrom};
+ghost use Rattle.records.specs.Orders.{row_of, Checked};
 ghost use Rattle.records.specs.Ranges.{contract_in_range, instrument_in_range, account_in_range};
-ghost use Rattle.records.specs.Rows.{active, adds_up, ending_agrees, sound};
+ghost use Rattle.records.specs.Rows.{active, adds_up, ending_agrees};
 ghost use Rattle.std.specs.Prelude.{◌≡◌, replicate, pos, is_some, IfSome};
 
 use crate::account::Account;
@@ -8,9 +8,11 @@ use crate::codes::{Direction, Ending, OrderType};
 use crate::contract::Contract;
 use crate::holder::Holder;
 use crate::instrument::Instrument;
-use crate::order::Order;
+use crate::order::{Order, UnsoundRow};
 use crate::rows::OrderRow;
 use crate::terms::{AccountTerms, ContractTerms, InstrumentTerms};
+
+// Each record has a function of its own: one type over any terms would take the records' names out of every definition.
 
 impl Contract {
     // The contract with these terms; none where they are out of range.
@@ -47,11 +49,7 @@ impl Account {
         if !terms.are_in_range() {
             return None;
         }
-        Some(Account {
-            holder: Holder { terms },
-            positions: [0; 32],
-            money: 0,
-        })
+        Some(Account::empty(Holder { terms }))
     }
 }
 
@@ -68,24 +66,29 @@ fn ending_agrees(row: &OrderRow) -> bool
     ensures { result ≡ ending_agrees row.now.ending row.now.remaining row.now.withdrawn }
 {
     match row.ending {
-        Ending::NotEnded => row.remaining > 0 && row.withdrawn == 0,
-        Ending::Filled => row.remaining == 0 && row.withdrawn == 0,
-        Ending::Withdrawn | Ending::Removed => row.remaining == 0 && row.withdrawn > 0,
+        None => row.remaining > 0 && row.withdrawn == 0,
+        Some(Ending::Filled) => row.remaining == 0 && row.withdrawn == 0,
+        Some(Ending::Withdrawn | Ending::Removed) => row.remaining == 0 && row.withdrawn > 0,
     }
 }
 
-impl Order {
-    // The order record with the row's fields; none where the row fails the check.
-    pub fn from_row(row: OrderRow) -> Option<Order>
-        ensures when { is_some result ≡ sound row }
-        ensures made { MadeFrom row result }
-    {
-        let direction = Direction::from_code(row.ticket.direction)?;
-        let order_type = OrderType::from_code(row.ticket.order_type)?;
+// The order record with the row's fields; an error where the row fails the check.
+impl TryFrom<OrderRow> for Order {
+    type Error = UnsoundRow;
+
+    ghost try_from_gives = { Checked };
+
+    fn try_from(row: OrderRow) -> Result<Order, UnsoundRow> {
+        let (Ok(direction), Ok(order_type)) = (
+            Direction::try_from(row.ticket.direction),
+            OrderType::try_from(row.ticket.order_type),
+        ) else {
+            return Err(UnsoundRow);
+        };
         if row.ticket.size != row.size || !adds_up(&row) || !ending_agrees(&row) {
-            return None;
+            return Err(UnsoundRow);
         }
-        Some(Order {
+        Ok(Order {
             ticket: row.ticket,
             direction,
             order_type,
@@ -96,8 +99,26 @@ impl Order {
             ending: row.ending,
         })
     }
+}
 
-    // Whether something remains to be filled.
+// The row with the order's fields.
+impl From<Order> for OrderRow {
+    ghost from_gives = { λ order row. row ≡ row_of order };
+
+    fn from(order: Order) -> OrderRow {
+        OrderRow {
+            ticket: order.ticket,
+            size: order.size,
+            filled: order.filled,
+            remaining: order.remaining,
+            withdrawn: order.withdrawn,
+            ending: order.ending,
+        }
+    }
+}
+
+impl Order {
+    // Whether something remains to be filled: the test of a row again, which is plainer than making the row.
     pub fn is_active(&self) -> bool
         ensures { result ≡ active (row_of self.now) }
     {

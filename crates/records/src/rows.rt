@@ -6,18 +6,19 @@ use crate::terms::Ticket;
 
 // What a place of the order register holds: an order's fields with nothing promised of them.
 // `Order` is made of a row that passes its check.
-#[derive(Clone, Copy)]
+#[derive(Clone, Copy, Debug, Default, PartialEq, Eq)]
 pub struct OrderRow {
     pub ticket: Ticket,
     pub size: u32,
     pub filled: u32,
     pub remaining: u32,
     pub withdrawn: u32,
-    pub ending: Ending,
+    // none for an order that has not ended
+    pub ending: Option<Ending>,
 }
 
 // What a place of the trades register holds: a quantity of a contract that passed from one order to another at a price.
-#[derive(Clone, Copy)]
+#[derive(Clone, Copy, Debug, Default, PartialEq, Eq)]
 pub struct Trade {
     pub contract: u32,
     pub buying_order: u32,

@@ -37,18 +37,12 @@ const TICKET: Ticket = Ticket {
 
 // The number of the direction that is read from this one, or 9 where there is none.
 fn direction_read(code: u32) -> u32 {
-    match Direction::from_code(code) {
-        Some(d) => d.code(),
-        None => 9,
-    }
+    Direction::try_from(code).map_or(9, u32::from)
 }
 
 // The number of the type that is read from this one, or 9 where there is none.
 fn type_read(code: u32) -> u32 {
-    match OrderType::from_code(code) {
-        Some(t) => t.code(),
-        None => 9,
-    }
+    OrderType::try_from(code).map_or(9, u32::from)
 }
 
 #[test]
@@ -69,12 +63,12 @@ fn codes_are_read(rt: HostRuntime) {
 
 #[test]
 fn endings_and_phases_have_numbers(rt: HostRuntime) {
-    assert_eq!(rt; Ending::NotEnded.code(), 0);
-    assert_eq!(rt; Ending::Filled.code(), 1);
-    assert_eq!(rt; Ending::Withdrawn.code(), 2);
-    assert_eq!(rt; Ending::Removed.code(), 3);
-    assert_eq!(rt; Phase::Suspended.code(), 0);
-    assert_eq!(rt; Phase::Trading.code(), 1);
+    assert_eq!(rt; Ending::code_of(None), 0);
+    assert_eq!(rt; Ending::code_of(Some(Ending::Filled)), 1);
+    assert_eq!(rt; Ending::code_of(Some(Ending::Withdrawn)), 2);
+    assert_eq!(rt; Ending::code_of(Some(Ending::Removed)), 3);
+    assert_eq!(rt; u32::from(Phase::Suspended), 0);
+    assert_eq!(rt; u32::from(Phase::Trading), 1);
 }
 
 // Whether a contract with these numbers, and prices in order, is in range.
@@ -271,8 +265,8 @@ fn an_account_begins_with_nought(rt: HostRuntime) -> Result<(), Fail> {
     };
     assert_eq!(rt; account.holder.terms.participant, 11);
     assert_eq!(rt; account.holder.terms.taxpayer, 501);
-    assert_eq!(rt; account.positions[0], 0);
-    assert_eq!(rt; account.positions[31], 0);
+    assert_eq!(rt; account.lots_in(1), 0);
+    assert_eq!(rt; account.lots_in(32), 0);
     assert_eq!(rt; account.money, 0);
     assert!(rt;
         Account::new(AccountTerms {

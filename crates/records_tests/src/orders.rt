@@ -22,17 +22,17 @@ const ROW: OrderRow = OrderRow {
     filled: 15,
     remaining: 25,
     withdrawn: 0,
-    ending: Ending::NotEnded,
+    ending: None,
 };
 
 #[test]
 fn a_sound_row_makes_its_order(rt: HostRuntime) -> Result<(), Fail> {
-    let Some(order) = Order::from_row(ROW) else {
+    let Ok(order) = Order::try_from(ROW) else {
         return Err(Fail::new("no order"));
     };
-    assert!(rt; matches!(order.direction, Direction::Sell));
-    assert!(rt; matches!(order.order_type, OrderType::Limit));
-    assert!(rt; matches!(order.ending, Ending::NotEnded));
+    assert_eq!(rt; order.direction, Direction::Sell);
+    assert_eq!(rt; order.order_type, OrderType::Limit);
+    assert_eq!(rt; order.ending, None);
     assert_eq!(rt; order.ticket.price, -12);
     assert_eq!(rt; order.ticket.reference, Some(9));
     assert_eq!(rt; order.size, 40);
@@ -47,10 +47,10 @@ fn an_order_is_active_while_something_remains(rt: HostRuntime) -> Result<(), Fai
     let filled = OrderRow {
         filled: 40,
         remaining: 0,
-        ending: Ending::Filled,
+        ending: Some(Ending::Filled),
         ..ROW
     };
-    let Some(order) = Order::from_row(filled) else {
+    let Ok(order) = Order::try_from(filled) else {
         return Err(Fail::new("no order"));
     };
     assert!(rt; !filled.is_active());
@@ -60,7 +60,7 @@ fn an_order_is_active_while_something_remains(rt: HostRuntime) -> Result<(), Fai
         remaining: 1,
         ..ROW
     };
-    let Some(order) = Order::from_row(one) else {
+    let Ok(order) = Order::try_from(one) else {
         return Err(Fail::new("no order"));
     };
     assert!(rt; one.is_active());
@@ -71,14 +71,14 @@ fn an_order_is_active_while_something_remains(rt: HostRuntime) -> Result<(), Fai
 // Whether a row with these quantities, its ticket of the same size, makes an order.
 fn sums(size: u32, filled: u32, remaining: u32) -> bool {
     let ticket = Ticket { size, ..TICKET };
-    Order::from_row(OrderRow {
+    Order::try_from(OrderRow {
         ticket,
         size,
         filled,
         remaining,
         ..ROW
     })
-    .is_some()
+    .is_ok()
 }
 
 #[test]
@@ -92,12 +92,12 @@ fn quantities_that_do_not_add_up_make_none(rt: HostRuntime) {
     assert!(rt; sums(u32::MAX, u32::MAX - 25, 25));
     // the size is the ticket's
     assert!(rt;
-        Order::from_row(OrderRow {
+        Order::try_from(OrderRow {
             size: 41,
             filled: 16,
             ..ROW
         })
-        .is_none()
+        .is_err()
     );
 }
 
@@ -107,41 +107,41 @@ fn codes_that_are_none_make_none(rt: HostRuntime) {
         direction: 0,
         ..TICKET
     };
-    assert!(rt; Order::from_row(OrderRow { ticket, ..ROW }).is_none());
+    assert!(rt; Order::try_from(OrderRow { ticket, ..ROW }).is_err());
     let ticket = Ticket {
         direction: 3,
         ..TICKET
     };
-    assert!(rt; Order::from_row(OrderRow { ticket, ..ROW }).is_none());
+    assert!(rt; Order::try_from(OrderRow { ticket, ..ROW }).is_err());
     let ticket = Ticket {
         order_type: 5,
         ..TICKET
     };
-    assert!(rt; Order::from_row(OrderRow { ticket, ..ROW }).is_none());
+    assert!(rt; Order::try_from(OrderRow { ticket, ..ROW }).is_err());
 }
 
-fn ended(filled: u32, remaining: u32, withdrawn: u32, ending: Ending) -> bool {
-    Order::from_row(OrderRow {
+fn ended(filled: u32, remaining: u32, withdrawn: u32, ending: Option<Ending>) -> bool {
+    Order::try_from(OrderRow {
         filled,
         remaining,
         withdrawn,
         ending,
         ..ROW
     })
-    .is_some()
+    .is_ok()
 }
 
 #[test]
 fn the_ending_is_the_one_that_the_quantities_tell(rt: HostRuntime) {
-    assert!(rt; ended(0, 40, 0, Ending::NotEnded));
-    assert!(rt; ended(39, 1, 0, Ending::NotEnded));
-    assert!(rt; !ended(40, 0, 0, Ending::NotEnded));
-    assert!(rt; ended(40, 0, 0, Ending::Filled));
-    assert!(rt; !ended(39, 1, 0, Ending::Filled));
-    assert!(rt; !ended(39, 0, 1, Ending::Filled));
-    assert!(rt; ended(39, 0, 1, Ending::Withdrawn));
-    assert!(rt; ended(0, 0, 40, Ending::Removed));
-    assert!(rt; !ended(40, 0, 0, Ending::Withdrawn));
-    assert!(rt; !ended(0, 1, 39, Ending::Removed));
-    assert!(rt; !ended(0, 1, 39, Ending::NotEnded));
+    assert!(rt; ended(0, 40, 0, None));
+    assert!(rt; ended(39, 1, 0, None));
+    assert!(rt; !ended(40, 0, 0, None));
+    assert!(rt; ended(40, 0, 0, Some(Ending::Filled)));
+    assert!(rt; !ended(39, 1, 0, Some(Ending::Filled)));
+    assert!(rt; !ended(39, 0, 1, Some(Ending::Filled)));
+    assert!(rt; ended(39, 0, 1, Some(Ending::Withdrawn)));
+    assert!(rt; ended(0, 0, 40, Some(Ending::Removed)));
+    assert!(rt; !ended(40, 0, 0, Some(Ending::Withdrawn)));
+    assert!(rt; !ended(0, 1, 39, Some(Ending::Removed)));
+    assert!(rt; !ended(0, 1, 39, None));
 }

@@ -1,4 +1,3 @@
-use records::codes::Ending;
 use records::register::{OrderRegister, Register};
 use records::rows::{OrderRow, Trade};
 use records::terms::Ticket;
@@ -22,7 +21,7 @@ const ROW: OrderRow = OrderRow {
     filled: 0,
     remaining: 40,
     withdrawn: 0,
-    ending: Ending::NotEnded,
+    ending: None,
 };
 
 const HOST: Trade = Trade {
@@ -126,6 +125,8 @@ fn unused_places_keep_what_the_host_had(rt: HostRuntime) -> Result<(), Fail> {
     assert!(rt; trades.replace(3, TRADE).is_none());
     let second = trades.get(2).ok_or("no record")?;
     assert_eq!(rt; second.price, 1_012);
+    assert_eq!(rt; trades.records().len(), 2);
+    assert_eq!(rt; price_at(trades.records(), 1), 1_012);
     assert_eq!(rt; price_at(&places, 0), 1_000);
     assert_eq!(rt; price_at(&places, 1), 1_012);
     assert_eq!(rt; price_at(&places, 2), -99);

@@ -1,24 +1,24 @@
 -- Two rules as one: the first that owns the code replies.
-use Rattle.std.specs.Prelude.{ℕ, Bool, true, false, ◌||◌, pos}
+use Rattle.std.specs.Prelude.{ℕ, Bool, true, false, ◌||◌, pos, Some, None, Option}
 use Rattle.rulebook.specs.Legs.{no_bounds}
 use Rattle.rulebook.specs.Rules.{RuleMeaning}
 use Rattle.rulebook.specs.declared.joined.Owner.{Owner}
-use Rattle.rulebook.specs.declared.joined.Owner.TheVariants.{First, Second, Neither}
+use Rattle.rulebook.specs.declared.joined.Owner.TheVariants.{First, Second}
 use Rattle.rulebook.specs.declared.legs.Legs.TheVariants.{NoLeg}
 
--- the first that owns the code
-abbrev pub owner_of : Bool → Bool → Owner
-owner_of true second = First
-owner_of false true = Second
-owner_of false false = Neither
+-- the first that owns the code, if one does
+abbrev pub owner_of : Bool → Bool → Option Owner
+owner_of true second = Some First
+owner_of false true = Some Second
+owner_of false false = None
 
 -- the owner's reply, or the last one where neither owns the code
-abbrev pub reply : {T : Type 0} → Owner → T → T → T → T
-reply First first second neither = first
-reply Second first second neither = second
-reply Neither first second neither = neither
+abbrev pub reply : {T : Type 0} → Option Owner → T → T → T → T
+reply (Some First) first second neither = first
+reply (Some Second) first second neither = second
+reply None first second neither = neither
 
-abbrev pub owner : RuleMeaning → RuleMeaning → ℕ → Owner
+abbrev pub owner : RuleMeaning → RuleMeaning → ℕ → Option Owner
 owner a b kind = owner_of (a.owns kind) (b.owns kind)
 
 abbrev pub joined : RuleMeaning → RuleMeaning → RuleMeaning

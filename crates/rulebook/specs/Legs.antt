@@ -1,5 +1,5 @@
 -- The legs of an instrument.
-use Rattle.std.specs.Prelude.{pos, Some, None, Option}
+use Rattle.std.specs.Prelude.{◌≡◌, pos, Some, None, Option}
 use Rattle.records.specs.declared.codes.Direction.{Direction}
 use Rattle.records.specs.declared.codes.Direction.TheVariants.{Buy, Sell}
 use Rattle.rulebook.specs.declared.legs.Bounds.{Bounds}
@@ -22,6 +22,12 @@ abbrev pub map_legs : {S T : Type 0} → (S → T) → Legs S → Legs T
 map_legs f NoLeg = NoLeg
 map_legs f (One a) = One (f a)
 map_legs f (Two a b) = Two (f a) (f b)
+
+-- what is made of each leg, one by one, is something that R allows
+abbrev pub Mapped : {S T : Type 0} → (S → T → Type 0) → Legs S → Legs T → Type 0
+Mapped R NoLeg made = made ≡ NoLeg
+Mapped R (One a) made = (x : _) × R a x × (made ≡ One x)
+Mapped R (Two a b) made = (x : _) × (y : _) × R a x × R b y × (made ≡ Two x y)
 
 -- what is said of each leg
 abbrev pub Each : {T : Type 0} → (T → Type 0) → Legs T → Type 0

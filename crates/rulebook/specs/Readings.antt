@@ -1,8 +1,8 @@
 -- The prices of the contracts that are read are in range, and noughts are.
 use Rattle.std.specs.Prelude.{◌≡◌, true, List, Some, None, Option, refl}
-use Rattle.std.proofs.lemmas.Bool.{and_parts}
+use Rattle.std.proofs.Common.{arith}
 use Rattle.std.specs.Option.{option_map, unwrap_or}
-use Rattle.records.specs.Ranges.{between, bounds_in_order, prices_in_order, price_in_range}
+use Rattle.records.specs.Ranges.{price_in_range}
 use Rattle.records.specs.Registers.{numbered}
 use Rattle.records.specs.declared.contract.Contract.{Contract}
 use Rattle.records.specs.declared.terms.ContractTerms.{ContractTerms}
@@ -19,16 +19,7 @@ pub record Prices (t : ContractTerms) : Type 0 where
   pub limits : BoundsInRange (limits_of t)
 
 contract_prices : (c : Contract) → Prices c.terms
-contract_prices c =
-    let t = c.terms in
-    let underlying = and_parts (between 1 65535 t.underlying) _ c.ranges in
-    let last_day = and_parts (between 1 100000 t.last_day) _ underlying.1 in
-    let prices = (and_parts (prices_in_order t.lower t.settlement t.upper) _ last_day.1).0 in
-    let bounds = and_parts (bounds_in_order t.lower t.upper) _ prices in
-    let lower = and_parts (price_in_range t.lower) _ bounds.0 in
-    let upper = and_parts (price_in_range t.upper) _ lower.1 in
-    let settlement = and_parts (price_in_range t.settlement) _ bounds.1 in
-    record { settlement = settlement.0; limits = (lower.0, upper.0) }
+contract_prices c = let h = c.ranges in record { settlement = grind arith; limits = (grind arith, grind arith) }
 
 read_prices : (o : Option Contract) → Prices (unwrap_or (option_map (λ c. c.terms) o) noughts)
 read_prices None = record { settlement = refl; limits = (refl, refl) }

@@ -1,9 +1,9 @@
 -- The spread rule keeps the laws.
 use Rattle.std.specs.Prelude.{◌≡◌, ℕ, true, List, ℤ, is_some, Some, None, Option, ◌==◌, refl}
-use Rattle.std.proofs.Common.{sym}
-use Rattle.std.proofs.lemmas.Bool.{and_parts, cond_both, false≢true, eqb-false}
+use Rattle.std.proofs.Common.{sym, arith}
+use Rattle.std.proofs.lemmas.Bool.{cond_both, false≢true, eqb-false}
 use Rattle.std.specs.Option.{option_map}
-use Rattle.records.specs.Ranges.{between, absent_or_between, within, price_in_range}
+use Rattle.records.specs.Ranges.{within, price_in_range}
 use Rattle.records.specs.Registers.{numbered}
 use Rattle.records.specs.declared.contract.Contract.{Contract}
 use Rattle.records.specs.declared.instrument.Instrument.{Instrument}
@@ -41,13 +41,7 @@ months_listed (Some m) contracts e = both_listed (numbered contracts m.nearby) (
 
 -- an instrument's own bounds are in range
 pub own_bounds_in_range : (i : Instrument) → BoundsInRange (record { lower = i.terms.lower; upper = i.terms.upper })
-own_bounds_in_range i =
-    let kind = and_parts (between 1 255 i.terms.kind) _ i.ranges in
-    let first = and_parts (between 1 32 i.terms.first) _ kind.1 in
-    let second = and_parts (absent_or_between 1 32 i.terms.second) _ first.1 in
-    let lower = and_parts (price_in_range i.terms.lower) _ second.1 in
-    let upper = and_parts (price_in_range i.terms.upper) _ lower.1 in
-    (lower.0, upper.0)
+own_bounds_in_range i = let h = i.ranges in (grind arith, grind arith)
 
 months_bounded : (m : Option Months) (i : Instrument) → BoundsInRange (spread_bounds m i)
 months_bounded None i = no_bounds_in_range

@@ -9,18 +9,7 @@ use crate::rule::InstrumentRule;
 use records::contract::Contract;
 use records::instrument::Instrument;
 
-fn told_price<R: InstrumentRule>(
-    rule: &R,
-    instrument: &Instrument,
-    leg: LegPlace,
-    price: i32,
-    contracts: &[Contract],
-) -> i64
-    ensures { result ≡ price_now (R.InstrumentRule.meaning rule.now) instrument.now leg price contracts.now }
-{
-    let terms = leg_terms(contracts, &rule.legs(instrument));
-    rule.leg_price(instrument, leg, price, &terms)
-}
+// The two questions have a function each: a struct of the three borrows would be made anew for every one that is asked.
 
 // The price at which a leg trades among the listed contracts. It fits a trade's price for every rule, by the law on leg
 // prices.
@@ -36,18 +25,8 @@ pub fn trade_price<R: InstrumentRule>(
     ensures value { result ≡ price_now (R.InstrumentRule.meaning rule.now) instrument.now leg price contracts.now }
     ensures bound { within 2000000 result ≡ true }
 {
-    told_price(rule, instrument, leg, price, contracts) as i32
-}
-
-fn told_bounds<R: InstrumentRule>(
-    rule: &R,
-    instrument: &Instrument,
-    contracts: &[Contract],
-) -> Bounds
-    ensures { result ≡ bounds_now (R.InstrumentRule.meaning rule.now) instrument.now contracts.now }
-{
     let terms = leg_terms(contracts, &rule.legs(instrument));
-    rule.bounds(instrument, &terms)
+    rule.leg_price(instrument, leg, price, &terms) as i32
 }
 
 // The price bounds among the listed contracts. They are in range for every rule, by the law on bounds.
@@ -59,5 +38,6 @@ pub fn bounds_now<R: InstrumentRule>(
     ensures value { result ≡ bounds_now (R.InstrumentRule.meaning rule.now) instrument.now contracts.now }
     ensures range { BoundsInRange result }
 {
-    told_bounds(rule, instrument, contracts)
+    let terms = leg_terms(contracts, &rule.legs(instrument));
+    rule.bounds(instrument, &terms)
 }

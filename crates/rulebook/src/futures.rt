@@ -10,10 +10,11 @@ use records::contract::Contract;
 use records::instrument::Instrument;
 use records::terms::ContractTerms;
 
+// The kind code of futures: a number as keyed, since the list of kinds is open and any rule may own any code.
 const FUTURES: u32 = 1;
 
 // Futures on one contract.
-#[derive(Clone, Copy)]
+#[derive(Clone, Copy, Debug)]
 pub struct FuturesRule;
 
 impl InstrumentRule for FuturesRule {
@@ -27,20 +28,22 @@ impl InstrumentRule for FuturesRule {
 
     fn admits(&self, instrument: &Instrument, contracts: &[Contract]) -> bool {
         let terms = instrument.terms;
-        if terms.kind != FUTURES || terms.second.is_some() {
-            return false;
-        }
-        terms.lower == 0 && terms.upper == 0 && listing_at(contracts, terms.first).is_some()
+        terms.kind == FUTURES
+            && terms.second.is_none()
+            && terms.lower == 0
+            && terms.upper == 0
+            && listing_at(contracts, terms.first).is_some()
     }
 
     fn legs(&self, instrument: &Instrument) -> Legs<Leg> {
-        if instrument.terms.kind != FUTURES {
-            return Legs::NoLeg;
+        if instrument.terms.kind == FUTURES {
+            Legs::One(Leg {
+                contract: instrument.terms.first,
+                in_purchase: Direction::Buy,
+            })
+        } else {
+            Legs::NoLeg
         }
-        Legs::One(Leg {
-            contract: instrument.terms.first,
-            in_purchase: Direction::Buy,
-        })
     }
 
     fn leg_price(

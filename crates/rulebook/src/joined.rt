@@ -12,18 +12,17 @@ use records::terms::ContractTerms;
 
 // Two rules as one: the first that owns a record's kind code replies. Where neither does, the joined rule itself replies
 // that the record is not admitted, has no leg, bounds of nought and no dated orders.
-#[derive(Clone, Copy)]
+#[derive(Clone, Copy, Debug)]
 pub struct Joined<A, B> {
     pub first: A,
     pub second: B,
 }
 
 // Which of two rules replies.
-#[derive(Clone, Copy)]
+#[derive(Clone, Copy, Debug, PartialEq, Eq)]
 pub enum Owner {
     First,
     Second,
-    Neither,
 }
 
 // The rules of the exchange.
@@ -34,19 +33,19 @@ pub const EXCHANGE_RULES: ExchangeRules = Joined {
     second: SpreadRule,
 };
 
-fn owner_of<A: InstrumentRule, B: InstrumentRule>(rules: &Joined<A, B>, kind: u32) -> Owner
-    ensures { result ≡ owner_in (A.InstrumentRule.meaning rules.now.first) (B.InstrumentRule.meaning rules.now.second) kind }
-{
-    if rules.first.owns(kind) {
-        return Owner::First;
-    }
-    if rules.second.owns(kind) {
-        Owner::Second
-    } else {
-        Owner::Neither
+impl<A: InstrumentRule, B: InstrumentRule> Joined<A, B> {
+    // The first rule that owns the kind code, if one does.
+    fn owner(&self, kind: u32) -> Option<Owner>
+        ensures { result ≡ owner_in (A.InstrumentRule.meaning self.now.first) (B.InstrumentRule.meaning self.now.second) kind }
+    {
+        if self.first.owns(kind) {
+            return Some(Owner::First);
+        }
+        self.second.owns(kind).then_some(Owner::Second)
     }
 }
 
+// A match for each question: the rules differ in type, so a shared method would take each call twice, as two closures.
 impl<A: InstrumentRule, B: InstrumentRule> InstrumentRule for Joined<A, B> {
     ghost meaning = { λ s. joined (A.InstrumentRule.meaning s.first) (B.InstrumentRule.meaning s.second) };
 
@@ -57,18 +56,18 @@ impl<A: InstrumentRule, B: InstrumentRule> InstrumentRule for Joined<A, B> {
     }
 
     fn admits(&self, instrument: &Instrument, contracts: &[Contract]) -> bool {
-        match owner_of(self, instrument.terms.kind) {
-            Owner::First => self.first.admits(instrument, contracts),
-            Owner::Second => self.second.admits(instrument, contracts),
-            Owner::Neither => false,
+        match self.owner(instrument.terms.kind) {
+            Some(Owner::First) => self.first.admits(instrument, contracts),
+            Some(Owner::Second) => self.second.admits(instrument, contracts),
+            None => false,
         }
     }
 
     fn legs(&self, instrument: &Instrument) -> Legs<Leg> {
-        match owner_of(self, instrument.terms.kind) {
-            Owner::First => self.first.legs(instrument),
-            Owner::Second => self.second.legs(instrument),
-            Owner::Neither => Legs::NoLeg,
+        match self.owner(instrument.terms.kind) {
+            Some(Owner::First) => self.first.legs(instrument),
+            Some(Owner::Second) => self.second.legs(instrument),
+            None => Legs::NoLeg,
         }
     }
 
@@ -79,26 +78,26 @@ impl<A: InstrumentRule, B: InstrumentRule> InstrumentRule for Joined<A, B> {
         price: i32,
         terms: &Legs<ContractTerms>,
     ) -> i64 {
-        match owner_of(self, instrument.terms.kind) {
-            Owner::First => self.first.leg_price(instrument, leg, price, terms),
-            Owner::Second => self.second.leg_price(instrument, leg, price, terms),
-            Owner::Neither => 0,
+        match self.owner(instrument.terms.kind) {
+            Some(Owner::First) => self.first.leg_price(instrument, leg, price, terms),
+            Some(Owner::Second) => self.second.leg_price(instrument, leg, price, terms),
+            None => 0,
         }
     }
 
     fn bounds(&self, instrument: &Instrument, terms: &Legs<ContractTerms>) -> Bounds {
-        match owner_of(self, instrument.terms.kind) {
-            Owner::First => self.first.bounds(instrument, terms),
-            Owner::Second => self.second.bounds(instrument, terms),
-            Owner::Neither => NO_BOUNDS,
+        match self.owner(instrument.terms.kind) {
+            Some(Owner::First) => self.first.bounds(instrument, terms),
+            Some(Owner::Second) => self.second.bounds(instrument, terms),
+            None => NO_BOUNDS,
         }
     }
 
     fn may_be_dated(&self, instrument: &Instrument) -> bool {
-        match owner_of(self, instrument.terms.kind) {
-            Owner::First => self.first.may_be_dated(instrument),
-            Owner::Second => self.second.may_be_dated(instrument),
-            Owner::Neither => false,
+        match self.owner(instrument.terms.kind) {
+            Some(Owner::First) => self.first.may_be_dated(instrument),
+            Some(Owner::Second) => self.second.may_be_dated(instrument),
+            None => false,
         }
     }
 }

@@ -1,23 +1,21 @@
 ghost use Rattle.std.specs.Prelude.{◌≡◌, ◌<◌, MatchResult};
-ghost use Rattle.rulebook.specs.Centres.{largest_pledge, largest_margin, InRange, entry_of, pledge_most, lots_for as lots_of};
+ghost use Rattle.rulebook.specs.Centres.{entry_of, pledge_most, lots_for as lots_of};
 ghost use Rattle.rulebook.specs.Faults.{PledgeFault};
 ghost use Rattle.rulebook.specs.Tables.{pledge_bounded};
 
 use crate::centre::{ClearingCentre, MOST_LOTS};
 use crate::fault::OutOfRange;
-use crate::table::{entry_at, first_outside};
+use crate::table::Table;
 
 const LARGEST_PLEDGE: u64 = 1_000_000_000_000;
 
 const LARGEST_MARGIN: u64 = 1_000_000_000;
 
 // The clearing centre that lets an account's pledge carry as many lots as it has margin for.
-#[derive(Clone, Copy)]
+#[derive(Clone, Copy, Debug)]
 pub struct PledgeCentre {
-    pledges: [Option<u64>; 64],
-    margins: [Option<u64>; 32],
-    ghost pledges_within: { InRange 0 largest_pledge pledges },
-    ghost margins_within: { InRange 1 largest_margin margins },
+    pledges: Table<64, 0, LARGEST_PLEDGE>,
+    margins: Table<32, 1, LARGEST_MARGIN>,
 }
 
 // How many lots of this margin the pledge carries, a million at most.
@@ -35,28 +33,21 @@ impl PledgeCentre {
         pledges: [Option<u64>; 64],
         margins: [Option<u64>; 32],
     ) -> Result<PledgeCentre, OutOfRange>
-        ensures { MatchResult result (λ c. (c.pledges ≡ pledges) × (c.margins ≡ margins)) (PledgeFault pledges margins) }
+        ensures { MatchResult result (λ c. (c.pledges.entries ≡ pledges) × (c.margins.entries ≡ margins)) (PledgeFault pledges margins) }
     {
-        if let Some(account) = first_outside(&pledges, 0, LARGEST_PLEDGE) {
-            return Err(OutOfRange::Pledge(account));
-        }
-        match first_outside(&margins, 1, LARGEST_MARGIN) {
-            Some(contract) => Err(OutOfRange::Margin(contract)),
-            None => Ok(PledgeCentre { pledges, margins }),
-        }
+        let pledges = Table::new(pledges).map_err(OutOfRange::Pledge)?;
+        let margins = Table::new(margins).map_err(OutOfRange::Margin)?;
+        Ok(PledgeCentre { pledges, margins })
     }
 }
 
 impl ClearingCentre for PledgeCentre {
-    ghost most = { λ s account contract. pledge_most (entry_of s.pledges account) (entry_of s.margins contract) };
+    ghost most = { λ s account contract. pledge_most (entry_of s.pledges.entries account) (entry_of s.margins.entries contract) };
 
-    ghost bounded = { λ s account contract. pledge_bounded (entry_of s.pledges account) (entry_of s.margins contract) };
+    ghost bounded = { λ s account contract. pledge_bounded (entry_of s.pledges.entries account) (entry_of s.margins.entries contract) };
 
     fn most_lots(&self, account: u32, contract: u32) -> u32 {
-        match (
-            entry_at(&self.pledges, account),
-            entry_at(&self.margins, contract),
-        ) {
+        match (self.pledges.get(account), self.margins.get(contract)) {
             (Some(pledge), Some(margin)) => lots_for(pledge, margin),
             _ => 0,
         }

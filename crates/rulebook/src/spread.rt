@@ -14,10 +14,11 @@ use records::contract::Contract;
 use records::instrument::Instrument;
 use records::terms::ContractTerms;
 
+// The kind code of spreads: a number as keyed, since the list of kinds is open and any rule may own any code.
 const SPREAD: u32 = 2;
 
 // Calendar spreads of two contracts of one underlying. A spread's price is the distant price less the nearby price.
-#[derive(Clone, Copy)]
+#[derive(Clone, Copy, Debug)]
 pub struct SpreadRule;
 
 // The months of a spread's record; none where it is no spread, or not of two different contracts.
@@ -25,23 +26,23 @@ fn months(instrument: &Instrument) -> Option<Months>
     ensures { result ≡ months_of instrument.now }
 {
     let terms = instrument.terms;
-    match terms.second {
-        Some(second) if terms.kind == SPREAD && second != terms.first => Some(Months {
+    terms
+        .second
+        .filter(|second| terms.kind == SPREAD && *second != terms.first)
+        .map(|second| Months {
             nearby: terms.first,
             distant: second,
-        }),
-        _ => None,
-    }
+        })
 }
 
 // Whether both contracts are listed, of one underlying, the second with the later last trading day.
 fn follows(nearby: Option<Listing>, distant: Option<Listing>) -> bool
     ensures { result ≡ follows_in nearby distant }
 {
-    match (nearby, distant) {
-        (Some(n), Some(d)) => n.underlying == d.underlying && n.last_day < d.last_day,
-        _ => false,
-    }
+    matches!(
+        (nearby, distant),
+        (Some(n), Some(d)) if n.underlying == d.underlying && n.last_day < d.last_day
+    )
 }
 
 fn nearby_settlement(terms: &Legs<ContractTerms>) -> i32
@@ -49,8 +50,7 @@ fn nearby_settlement(terms: &Legs<ContractTerms>) -> i32
 {
     match terms {
         Legs::NoLeg => 0,
-        Legs::One(nearby) => nearby.settlement,
-        Legs::Two(nearby, _) => nearby.settlement,
+        Legs::One(nearby) | Legs::Two(nearby, _) => nearby.settlement,
     }
 }
 
@@ -64,18 +64,17 @@ impl InstrumentRule for SpreadRule {
     }
 
     fn admits(&self, instrument: &Instrument, contracts: &[Contract]) -> bool {
-        match months(instrument) {
-            Some(m) => follows(
+        months(instrument).is_some_and(|m| {
+            follows(
                 listing_at(contracts, m.nearby),
                 listing_at(contracts, m.distant),
-            ),
-            None => false,
-        }
+            )
+        })
     }
 
     fn legs(&self, instrument: &Instrument) -> Legs<Leg> {
-        match months(instrument) {
-            Some(m) => Legs::Two(
+        months(instrument).map_or(Legs::NoLeg, |m| {
+            Legs::Two(
                 Leg {
                     contract: m.nearby,
                     in_purchase: Direction::Sell,
@@ -84,9 +83,8 @@ impl InstrumentRule for SpreadRule {
                     contract: m.distant,
                     in_purchase: Direction::Buy,
                 },
-            ),
-            None => Legs::NoLeg,
-        }
+            )
+        })
     }
 
     fn leg_price(
@@ -105,12 +103,13 @@ impl InstrumentRule for SpreadRule {
     }
 
     fn bounds(&self, instrument: &Instrument, _terms: &Legs<ContractTerms>) -> Bounds {
-        match months(instrument) {
-            Some(_) => Bounds {
+        if months(instrument).is_some() {
+            Bounds {
                 lower: instrument.terms.lower,
                 upper: instrument.terms.upper,
-            },
-            None => NO_BOUNDS,
+            }
+        } else {
+            NO_BOUNDS
         }
     }
 

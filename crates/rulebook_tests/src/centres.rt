@@ -2,15 +2,14 @@ use rulebook::centre::ClearingCentre;
 use rulebook::fault::OutOfRange;
 use rulebook::lots::LotsCentre;
 use rulebook::pledge::PledgeCentre;
+use std::test::Fail;
 
 // What the lots centre with this number for contract 32 alone tells, or none where it is not made.
 fn lots(limit: u64, account: u32, contract: u32) -> Option<u32> {
     let mut limits = [None; 32];
     limits[31] = Some(limit);
-    match LotsCentre::new(limits) {
-        Ok(centre) => Some(centre.most_lots(account, contract)),
-        Err(_) => None,
-    }
+    let centre = LotsCentre::new(limits).ok()?;
+    Some(centre.most_lots(account, contract))
 }
 
 #[test]
@@ -34,10 +33,8 @@ fn pledged(pledge: u64, margin: u64, account: u32, contract: u32) -> Option<u32>
     let mut margins = [None; 32];
     pledges[63] = Some(pledge);
     margins[31] = Some(margin);
-    match PledgeCentre::new(pledges, margins) {
-        Ok(centre) => Some(centre.most_lots(account, contract)),
-        Err(_) => None,
-    }
+    let centre = PledgeCentre::new(pledges, margins).ok()?;
+    Some(centre.most_lots(account, contract))
 }
 
 #[test]
@@ -90,4 +87,15 @@ fn a_centre_is_not_made_of_numbers_out_of_range(rt: HostRuntime) {
             Err(OutOfRange::Pledge(64))
         )
     );
+}
+
+#[test]
+fn a_fault_is_told_in_words(rt: HostRuntime) -> Result<(), Fail> {
+    let limit = OutOfRange::Limit(5).to_string(rt.alloc())?;
+    let pledge = OutOfRange::Pledge(64).to_string(rt.alloc())?;
+    let margin = OutOfRange::Margin(1).to_string(rt.alloc())?;
+    assert_eq!(rt; limit.as_str(), "the limit of contract 5 is out of range");
+    assert_eq!(rt; pledge.as_str(), "the pledge of account 64 is out of range");
+    assert_eq!(rt; margin.as_str(), "the margin of contract 1 is out of range");
+    Ok(())
 }

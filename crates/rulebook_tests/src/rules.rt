@@ -128,7 +128,7 @@ fn spreads_are_admitted(rt: HostRuntime) {
 
 // A leg's contract, and 1 or 2 for what an order of this direction does in it.
 fn told(leg: &Leg, order: Direction) -> (u32, u32) {
-    (leg.contract, leg.direction_in(order).code())
+    (leg.contract, u32::from(leg.direction_in(order)))
 }
 
 #[test]
@@ -157,6 +157,14 @@ fn a_purchase_of_futures_buys_the_contract(rt: HostRuntime) -> Result<(), Fail> 
     assert_eq!(rt; told(&leg, Direction::Buy), (1, 1));
     assert_eq!(rt; told(&leg, Direction::Sell), (1, 2));
     Ok(())
+}
+
+#[test]
+fn the_legs_keep_their_order(rt: HostRuntime) {
+    let none: Legs<u32> = Legs::NoLeg;
+    assert_eq!(rt; none.map(|n| n / 2), Legs::NoLeg);
+    assert_eq!(rt; Legs::One(7u32).map(|n| n / 2), Legs::One(3));
+    assert_eq!(rt; Legs::Two(4u32, 7).map(|n| n / 2), Legs::Two(2, 3));
 }
 
 // How many legs an instrument has under any rule, and whether its orders may be dated.

@@ -1,12 +1,10 @@
 #![tactic(auto)]
 
 ghost use Rattle.std.specs.Prelude.{◌≡◌, true};
-ghost use Rattle.books.specs.Ledgers.{Sound};
 ghost use Rattle.records.specs.Ranges.{price_in_range};
-ghost use Rattle.records.specs.Registers.{Fits};
 ghost use Rattle.sample.specs.Struck.{leg_trade as trade_of};
 
-use anyhow::anyhow;
+use anyhow::{Context, anyhow};
 use books::ledger::Ledger;
 use books::value::difference_in;
 use records::account::Account;
@@ -23,7 +21,7 @@ use rulebook::legs::{Leg, LegPlace, Legs};
 use rulebook::rule::InstrumentRule;
 
 // Two orders that met: who bought and who sold the instrument, how much, and at which price.
-#[derive(Clone, Copy)]
+#[derive(Clone, Copy, Debug, PartialEq, Eq)]
 struct Struck {
     buying_order: u32,
     selling_order: u32,
@@ -62,9 +60,7 @@ fn strike<R: InstrumentRule>(
     struck: &Struck,
     trades: &mut TradeRegister,
 ) -> anyhow::Result<()>
-    requires fits { Fits trades.old }
-    requires price { price_in_range struck.now.price ≡ true }
-    ensures { Fits trades.new }
+    requires { price_in_range struck.now.price ≡ true }
 {
     match rule.legs(instrument) {
         Legs::NoLeg => Err(anyhow!("the instrument has no leg")),
@@ -94,25 +90,16 @@ fn show(rt: &HostRuntime, what: &str, number: usize, t: &Trade) -> anyhow::Resul
 }
 
 // Enters a trade and says under which number.
-fn enter(rt: &HostRuntime, trades: &mut TradeRegister, trade: Trade) -> anyhow::Result<()>
-    requires { Fits trades.old }
-    ensures { Fits trades.new }
-{
-    match trades.enter(trade) {
-        Some(number) => show(rt, "entered trade", number, &trade),
-        None => Err(anyhow!("the trades register is full")),
-    }
+fn enter(rt: &HostRuntime, trades: &mut TradeRegister, trade: Trade) -> anyhow::Result<()> {
+    let number = trades.enter(trade).context("the trades register is full")?;
+    show(rt, "entered trade", number, &trade)
 }
 
-fn read_back(rt: &HostRuntime, trades: &TradeRegister) -> anyhow::Result<()>
-    requires { Fits trades.now }
-{
+fn read_back(rt: &HostRuntime, trades: &TradeRegister) -> anyhow::Result<()> {
     let count = trades.len();
     println!(rt; "the trades register holds {count} trades:")?;
-    for at in 0..count {
-        if let Some(trade) = trades.get(at + 1) {
-            show(rt, "trade", at + 1, &trade)?;
-        }
+    for (at, trade) in trades.records().iter().enumerate() {
+        show(rt, "trade", at + 1, trade)?;
     }
     Ok(())
 }
@@ -130,70 +117,53 @@ fn contract(last_day: u32, lower: i32, settlement: i32, upper: i32) -> Option<Co
 }
 
 // Books a trade between the accounts that own its two orders; here order n is account n's.
-fn book(ledger: &mut Ledger, contracts: &[Contract], trade: &Trade) -> anyhow::Result<()>
-    requires { Sound ledger.old }
-    ensures { Sound ledger.new }
-{
-    let Some(contract) = record_of(contracts, trade.contract as usize) else {
-        return Err(anyhow!("the contract is not listed"));
-    };
+fn book(ledger: &mut Ledger, contracts: &[Contract], trade: &Trade) -> anyhow::Result<()> {
+    let contract = record_of(contracts, trade.contract as usize).context(
+        "the contract is not listed",
+    )?;
     let difference = difference_in(&contract, trade.price);
-    if !ledger.try_book(
-        trade,
-        trade.buying_order as usize,
-        trade.selling_order as usize,
-        difference,
-    ) {
-        return Err(anyhow!("the trade cannot be booked"));
-    }
-    Ok(())
+    ledger
+        .try_book(
+            trade,
+            trade.buying_order as usize,
+            trade.selling_order as usize,
+            difference,
+        )
+        .map_err(|_| anyhow!("the trade cannot be booked"))
 }
 
 fn book_all(
     ledger: &mut Ledger,
     contracts: &[Contract],
     trades: &TradeRegister,
-) -> anyhow::Result<()>
-    requires { (Sound ledger.old) × (Fits trades.now) }
-    ensures { Sound ledger.new }
-{
-    for at in 0..trades.len() {
-        if let Some(trade) = trades.get(at + 1) {
-            book(ledger, contracts, &trade)?;
-        }
+) -> anyhow::Result<()> {
+    for trade in trades.records() {
+        book(ledger, contracts, trade)?;
     }
     Ok(())
 }
 
-fn show_accounts(rt: &HostRuntime, ledger: &Ledger) -> anyhow::Result<()>
-    requires { Sound ledger.now }
-{
-    for at in 0..ledger.len() {
-        if let Some(account) = ledger.get(at + 1) {
-            let number = at + 1;
-            let nearby = account.positions[0];
-            let distant = account.positions[1];
-            let money = account.money;
-            println!(rt; "account {number}: nearby {nearby} distant {distant} money {money}")?;
-        }
+fn show_accounts(rt: &HostRuntime, ledger: &Ledger) -> anyhow::Result<()> {
+    for (at, account) in ledger.accounts().iter().enumerate() {
+        let number = at + 1;
+        let nearby = account.lots_in(1);
+        let distant = account.lots_in(2);
+        let money = account.money;
+        println!(rt; "account {number}: nearby {nearby} distant {distant} money {money}")?;
     }
     Ok(())
 }
 
-fn admit(ledger: &mut Ledger, participant: u32, taxpayer: u32) -> anyhow::Result<()>
-    requires { Sound ledger.old }
-    ensures { Sound ledger.new }
-{
-    let Some(account) = Account::new(AccountTerms {
+fn admit(ledger: &mut Ledger, participant: u32, taxpayer: u32) -> anyhow::Result<()> {
+    let account = Account::new(AccountTerms {
         participant,
         taxpayer,
-    }) else {
-        return Err(anyhow!("the account is out of range"));
-    };
-    match ledger.admit(account) {
-        Some(_) => Ok(()),
-        None => Err(anyhow!("there are too many accounts")),
-    }
+    })
+    .context("the account is out of range")?;
+    ledger
+        .admit(account)
+        .context("there are too many accounts")?;
+    Ok(())
 }
 
 // Says what is struck, and who takes which month.
@@ -213,26 +183,21 @@ fn announce(rt: &HostRuntime, struck: &Struck, contracts: &[Contract; 2]) -> any
 
 // The nearby and the distant month.
 fn months() -> anyhow::Result<[Contract; 2]> {
-    let Some(nearby) = contract(90, 900, 1_000, 1_100) else {
-        return Err(anyhow!("the nearby contract is out of range"));
-    };
-    let Some(distant) = contract(180, 950, 1_040, 1_200) else {
-        return Err(anyhow!("the distant contract is out of range"));
-    };
+    let nearby = contract(90, 900, 1_000, 1_100).context("the nearby contract is out of range")?;
+    let distant = contract(180, 950, 1_040, 1_200).context("the distant contract is out of range")?;
     Ok([nearby, distant])
 }
 
 // The spread of the two months, admitted by the exchange's rules.
 fn spread_of(contracts: &[Contract; 2]) -> anyhow::Result<Instrument> {
-    let Some(spread) = Instrument::new(InstrumentTerms {
+    let spread = Instrument::new(InstrumentTerms {
         kind: 2,
         first: 1,
         second: Some(2),
         lower: -50,
         upper: 100,
-    }) else {
-        return Err(anyhow!("the instrument is out of range"));
-    };
+    })
+    .context("the instrument is out of range")?;
     if !EXCHANGE_RULES.admits(&spread, contracts) {
         return Err(anyhow!("the spread is not admitted"));
     }
@@ -240,9 +205,11 @@ fn spread_of(contracts: &[Contract; 2]) -> anyhow::Result<Instrument> {
 }
 
 // Books the trades in two fresh accounts and shows them.
-fn settle(rt: &HostRuntime, contracts: &[Contract; 2], trades: &TradeRegister) -> anyhow::Result<()>
-    requires { Fits trades.now }
-{
+fn settle(
+    rt: &HostRuntime,
+    contracts: &[Contract; 2],
+    trades: &TradeRegister,
+) -> anyhow::Result<()> {
     let mut ledger = Ledger::new();
     admit(&mut ledger, 11, 501)?;
     admit(&mut ledger, 12, 502)?;
@@ -261,13 +228,7 @@ fn run(rt: &HostRuntime) -> anyhow::Result<()> {
         price: 12,
     };
     announce(rt, &struck, &contracts)?;
-    let mut places = [Trade {
-        contract: 0,
-        buying_order: 0,
-        selling_order: 0,
-        quantity: 0,
-        price: 0,
-    }; 2];
+    let mut places = [Trade::default(); 2];
     let mut trades = Register::begin(&mut places);
     strike(
         rt,

@@ -10,7 +10,6 @@ use Rattle.sheet.specs.declared.values.Values.{Values}
 use Rattle.sheet.specs.Entries.{entry_of, entry_unless, entry_with, line_read}
 use Rattle.sheet.specs.Faults.{LineFault, and_then}
 use Rattle.sheet.specs.Fields.{field_key, field_text, with_field, with_fields, first_missing}
-use Rattle.sheet.specs.Firsts.{first_that}
 use Rattle.sheet.specs.Keys.{key_kind}
 use Rattle.sheet.specs.Laws.{Writes, Written, AllKept, Lacks, EachOnce, FieldsHold, Says}
 use Rattle.sheet.specs.Names.{keys_of}
@@ -80,7 +79,6 @@ same_values keys ws vs us p q k = go (value_at vs k) refl (value_at us k) refl
     go None e (Some y) f = sym e ∙ kept_if_written keys ws vs k y p.kept (q.no_others k y f)
 
 same_first : (vs us : Values) (keys : List Key) → ((k : Key) → value_at vs k ≡ value_at us k) → first_missing keys vs ≡ first_missing keys us
-unfolding first_that
 same_first vs us [] h = refl
 same_first vs us (k ∷ ks) h = rw (h k, same_first vs us ks h)
 

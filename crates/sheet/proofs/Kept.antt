@@ -1,6 +1,6 @@
 -- The values of a line's fields are those that its words write.
 use Rattle.std.proofs.Common.{◌≡◌, ℕ, ◌<◌, Bool, true, false, cond, eqb, ◌≢◌, ◌⊎◌, List, [], ◌∷◌, length, get_or, is_some, Some, None, Ok, Err, Option, Result, sym, refl, ap, ◌∙◌, subst, inl, inr, arith, eqb-true}
-use borrow.Author.Tests.{eqb_apart}
+use Rattle.std.proofs.lemmas.Bool.{eqb-false}
 use Rattle.std.proofs.lemmas.List.{get_or-set_same, get_or-set_other, get_or-replicate, length-set}
 use Rattle.sheet.specs.declared.fault.Fault.TheVariants.{Repeated}
 use Rattle.sheet.specs.declared.key.Key.{Key}
@@ -29,25 +29,25 @@ pub record Step (keys : List Key) (vs more : Values) (word : List ℕ) : Type 0 
 
 none_there : (o : Option Value) → is_some o ≡ false → o ≡ None
 none_there None e = refl
-none_there (Some x) e = let z : ◌≡◌ {A = ℕ} 0 1 = cc in absurd (omega arith)
+none_there (Some x) e = absurd cc
 
 step : (keys : List Key) (vs more : Values) (word : List ℕ) → with_field keys vs word ≡ Ok more → Step keys vs more word
 step keys vs more word e = go (field_key keys word) refl e
   where
     last : (key : Key) → field_key keys word ≡ Some key → value_at vs key ≡ None → (o : Option Value) → value_of (key_kind key) (field_text word) ≡ o
         → with_number vs key o ≡ Ok more → Step keys vs more word
-    last key k f None n h = let z : ◌≡◌ {A = ℕ} 0 1 = cc in absurd (omega arith)
+    last key k f None n h = absurd cc
     last key k f (Some x) n h =
         let same : with_value vs key x ≡ more = cc in
         record { key = key; x = x; writes = record { keyed = k; number = n }; fresh = f; entered = sym same }
 
     mid : (key : Key) → field_key keys word ≡ Some key → (t : Bool) → is_some (value_at vs key) ≡ t
         → cond t (Err (Repeated key)) (with_number vs key (value_of (key_kind key) (field_text word))) ≡ Ok more → Step keys vs more word
-    mid key k true s h = let z : ◌≡◌ {A = ℕ} 0 1 = cc in absurd (omega arith)
+    mid key k true s h = absurd cc
     mid key k false s h = last key k (none_there (value_at vs key) s) (value_of (key_kind key) (field_text word)) refl h
 
     go : (o : Option Key) → field_key keys word ≡ o → with_keyed vs o word ≡ Ok more → Step keys vs more word
-    go None k h = let z : ◌≡◌ {A = ℕ} 0 1 = cc in absurd (omega arith)
+    go None k h = absurd cc
     go (Some key) k h = mid key k (is_some (value_at vs key)) refl h
 
 -- no two keys have one place
@@ -70,7 +70,7 @@ after keys vs more word s k = go (eqb (place k) (place s.key)) refl
     go : (t : Bool) → eqb (place k) (place s.key) ≡ t → (k ≡ s.key) ⊎ (value_at more k ≡ value_at vs k)
     go true e = inl (same_place k s.key (eqb-true _ _ e))
     go false e =
-        let apart : place k ≢ place s.key = eqb_apart _ _ e in
+        let apart : place k ≢ place s.key = eqb-false _ _ e in
         inr (ap (λ (v : Values). value_at v k) s.entered ∙ get_or-set_other vs.given (place s.key) (place k) (Some s.x) None apart)
 
 kept_after : (keys : List Key) (vs more : Values) (word : List ℕ) (s : Step keys vs more word) (k : Key) (y : Value) → value_at vs k ≡ Some y → value_at more k ≡ Some y
@@ -79,8 +79,7 @@ kept_after keys vs more word s k y h = go (after keys vs more word s k)
     go : (k ≡ s.key) ⊎ (value_at more k ≡ value_at vs k) → value_at more k ≡ Some y
     go (inl e) =
         let a : value_at vs k ≡ None = ap (value_at vs) e ∙ s.fresh in
-        let z : ◌≡◌ {A = ℕ} 0 1 = cc in
-        absurd (omega arith)
+        absurd cc
     go (inr e) = e ∙ h
 
 came_from : (keys : List Key) (vs more : Values) (word : List ℕ) → Whole vs → (s : Step keys vs more word) (k : Key) (y : Value) → value_at more k ≡ Some y
@@ -107,7 +106,7 @@ begun keys vs end word others e = go (with_field keys vs word) refl e
   where
     go : (r : Result Values LineFault) → with_field keys vs word ≡ r → and_then r (λ more. with_fields keys more others) ≡ Ok end → Begun keys vs end word others
     go (Ok more) h f = record { more = more; first = step keys vs more word h; rest = f }
-    go (Err fault) h f = let z : ◌≡◌ {A = ℕ} 0 1 = cc in absurd (omega arith)
+    go (Err fault) h f = absurd cc
 
 kept : (keys : List Key) (vs end : Values) (ws : List (List ℕ)) → with_fields keys vs ws ≡ Ok end → (k : Key) (y : Value) → value_at vs k ≡ Some y → value_at end k ≡ Some y
 unfolding with_fields
@@ -151,8 +150,7 @@ no_later keys vs end (word ∷ others) k y h e =
           let keyed : field_key keys word ≡ Some s.key = s.writes.keyed in
           let same : s.key ≡ k = cc in
           let a : value_at vs k ≡ None = ap (value_at vs) (sym same) ∙ s.fresh in
-          let z : ◌≡◌ {A = ℕ} 0 1 = cc in
-          omega arith,
+          cc,
       no_later keys b.more end others k y (kept_after keys vs b.more word s k y h) b.rest,
     )
 
@@ -185,6 +183,5 @@ fields_hold keys ws vs e =
     go : (k : Key) (x : Value) → (value_at no_values k ≡ Some x) ⊎ Written keys ws k x → Written keys ws k x
     go k x (inl f) =
         let n : value_at no_values k ≡ None = none_yet k in
-        let z : ◌≡◌ {A = ℕ} 0 1 = cc in
-        absurd (omega arith)
+        absurd cc
     go k x (inr f) = f

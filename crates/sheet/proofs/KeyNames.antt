@@ -4,28 +4,26 @@ use Rattle.std.proofs.lemmas.Slice.Eq.{bytes_eq-Decides}
 use Rattle.std.specs.Str.{bytes_eq}
 use Rattle.sheet.specs.declared.key.Key.{Key}
 use Rattle.sheet.specs.declared.key.Key.TheVariants.{Orders, Trades, Contract, Limit, Account, Amount, Underlying, LastDay, Lower, Settlement, Upper, W, R, Kind, First, Second, Participant, Taxpayer, Instrument, Direction, OrderType, Price, Size, Addressee, Reference, Expiry, Order, Date, Number}
-use Rattle.sheet.specs.Firsts.{first_that}
+use Rattle.std.specs.List.{find}
 use Rattle.sheet.specs.Keys.{key_name, all_keys, place, key_among, KeyOf}
 
 -- what is found passes
-found_passes : {X : Type 0} (p : X → Bool) (xs : List X) (x : X) → first_that p xs ≡ Some x → p x ≡ true
-unfolding first_that
-found_passes p [] x e = let z : ◌≡◌ {A = ℕ} 0 1 = cc in absurd (omega arith)
+found_passes : {X : Type 0} (p : X → Bool) (xs : List X) (x : X) → find p xs ≡ Some x → p x ≡ true
+found_passes p [] x e = absurd cc
 found_passes p (y ∷ ys) x e = go (p y) refl (found_passes p ys x) e
   where
-    go : (t : Bool) → p y ≡ t → (first_that p ys ≡ Some x → p x ≡ true) → cond t (Some y) (first_that p ys) ≡ Some x → p x ≡ true
+    go : (t : Bool) → p y ≡ t → (find p ys ≡ Some x → p x ≡ true) → cond t (Some y) (find p ys) ≡ Some x → p x ≡ true
     go true h ih f = let same : y ≡ x = cc in ap p (sym same) ∙ h
     go false h ih f = ih f
 
 -- where nothing is found, none passes
-none_passes : {X : Type 0} (p : X → Bool) (xs : List X) (i : ℕ) (d : X) → i < length xs → first_that p xs ≡ None → p (get_or xs i d) ≡ false
-unfolding first_that
+none_passes : {X : Type 0} (p : X → Bool) (xs : List X) (i : ℕ) (d : X) → i < length xs → find p xs ≡ None → p (get_or xs i d) ≡ false
 none_passes p [] i d h e = absurd (omega arith)
 none_passes p (y ∷ ys) i d h e = go (p y) i refl (λ (j : ℕ) (k : j < length ys). none_passes p ys j d k) h e
   where
-    go : (t : Bool) (i : ℕ) → p y ≡ t → ((j : ℕ) → j < length ys → first_that p ys ≡ None → p (get_or ys j d) ≡ false) → i < suc (length ys)
-        → cond t (Some y) (first_that p ys) ≡ None → p (get_or (y ∷ ys) i d) ≡ false
-    go true j f ih k g = let z : ◌≡◌ {A = ℕ} 0 1 = cc in absurd (omega arith)
+    go : (t : Bool) (i : ℕ) → p y ≡ t → ((j : ℕ) → j < length ys → find p ys ≡ None → p (get_or ys j d) ≡ false) → i < suc (length ys)
+        → cond t (Some y) (find p ys) ≡ None → p (get_or (y ∷ ys) i d) ≡ false
+    go true j f ih k g = absurd cc
     go false zero f ih k g = f
     go false (suc j) f ih k g = ih j (omega arith) g
 
@@ -98,5 +96,4 @@ key_read text None e = λ key same.
     let test : Key → Bool = λ k. bytes_eq (key_name k) text in
     let no_one : test key ≡ false = ap test (sym (at_place key)) ∙ none_passes test all_keys (place key) Orders (place_within key) (sym e) in
     let that_one : test key ≡ true = (bytes_eq-Decides (key_name key) text).1 same in
-    let z : ◌≡◌ {A = ℕ} 0 1 = cc in
-    omega arith
+    cc

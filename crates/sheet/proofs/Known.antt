@@ -1,11 +1,12 @@
 -- Every name is known by its words.
 use Rattle.std.proofs.Common.{◌≡◌, ℕ, false, List, [], ◌∷◌, ◌++◌, Some, None, Ok, codes, Option, refl, ap, ◌∙◌}
+use Rattle.std.specs.Option.{option_map, option_or}
 use Rattle.sheet.specs.declared.name.Name.{Name}
 use Rattle.sheet.specs.declared.name.Name.TheVariants.{Memory, Lots, Pledge, Margin, ListContract, ListInstrument, AdmitAccount, Resume, Suspend, ShowContract, ShowInstrument, ShowAccount, ShowPosition, ShowMoney, ShowOrder, ShowTrade, ShowMarket}
 use Rattle.sheet.specs.Entries.{entry_with, remark, line_of_words}
 use Rattle.sheet.specs.Faults.{and_then}
 use Rattle.sheet.specs.Laws.{NamesAreKnown}
-use Rattle.sheet.specs.Names.{title, all_names, after, or_other, name_among}
+use Rattle.sheet.specs.Names.{title, all_names, after, name_among}
 use Rattle.sheet.specs.Words.{words_from, words}
 
 -- the words of a name, one by one
@@ -51,7 +52,7 @@ parts_are ShowMarket = refl
 -- the same search over the words one by one
 part_among : List Name → List (List ℕ) → Option (Name × List (List ℕ))
 part_among [] ws = None
-part_among (n ∷ ns) ws = or_other n (after (parts n) ws) (part_among ns ws)
+part_among (n ∷ ns) ws = option_or (option_map {U = Name × List (List ℕ)} (λ rest. (n, rest)) (after (parts n) ws)) (part_among ns ws)
 
 same_search : (ns : List Name) (ws : List (List ℕ)) → name_among ns ws ≡ part_among ns ws
 unfolding name_among part_among

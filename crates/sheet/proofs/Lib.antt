@@ -1,5 +1,5 @@
 pub mod Cutting
-pub mod Finding
+pub mod Folds
 pub mod Gathering
 pub mod Heard
 pub mod Kept

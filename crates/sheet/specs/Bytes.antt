@@ -1,27 +1,22 @@
--- Bytes, and the front of a text up to a byte of one kind.
-use Rattle.std.specs.Prelude.{ℕ, Bool, not, ◌||◌, List, take, drop, ◌==◌}
-use Rattle.std.specs.List.{prefix_len}
-use Rattle.sheet.specs.declared.bytes.Stop.{Stop}
-use Rattle.sheet.specs.declared.bytes.Stop.TheVariants.{AtInk, AtBlank, AtEquals, AtLineFeed}
+-- Bytes, and where a text is cut.
+use Rattle.std.specs.Prelude.{◌≡◌, ℕ, Bool, ◌||◌, List, drop, ◌==◌}
+use Rattle.std.specs.Fn.{Shared}
+use Rattle.std.specs.List.{position_or_len}
 
 -- a space or a tab
 abbrev pub blank : ℕ → Bool
 blank b = b == 32 || b == 9
 
--- the bytes that a front which stops so goes past
-abbrev pub passes : Stop → ℕ → Bool
-passes AtInk b = blank b
-passes AtBlank b = not (blank b)
-passes AtEquals b = not (b == 61)
-passes AtLineFeed b = not (b == 10)
+abbrev pub equals_sign : ℕ → Bool
+equals_sign b = b == 61
 
--- how long the longest such front is
-abbrev pub reach : Stop → List ℕ → ℕ
-reach stop bs = prefix_len (passes stop) bs
+abbrev pub line_feed : ℕ → Bool
+line_feed b = b == 10
 
--- that front, and what stands behind it
-abbrev pub front : Stop → List ℕ → List ℕ
-front stop bs = take (reach stop bs) bs
+-- each call of f answers what the test says of its byte
+abbrev pub Answers : {F : Type 0} → Shared F (ℕ × Unit {0}) Bool → (ℕ → Bool) → F → Type 0
+Answers g test f = (b : ℕ) (answer : Bool) → g.post f (b, tt) answer → answer ≡ test b
 
-abbrev pub behind : Stop → List ℕ → List ℕ
-behind stop bs = drop (reach stop bs) bs
+-- a text from its first byte on that passes a test, or nothing where none does
+abbrev pub from_first : (ℕ → Bool) → List ℕ → List ℕ
+from_first test bs = drop (position_or_len test bs) bs

@@ -1,5 +1,6 @@
 -- What a line says.
-use Rattle.std.specs.Prelude.{ℕ, Bool, cond, List, [], ◌∷◌, ℤ, Some, None, Ok, Err, Option, Result, ◌==◌, slice_index}
+use Rattle.std.specs.Prelude.{ℕ, Bool, cond, List, [], ◌∷◌, ℤ, pos, Some, None, Ok, Err, Option, Result, ◌==◌, slice_index}
+use Rattle.std.specs.Option.{option_and_then}
 use Rattle.records.specs.declared.terms.ContractTerms.{ContractTerms}
 use Rattle.records.specs.declared.terms.InstrumentTerms.{InstrumentTerms}
 use Rattle.records.specs.declared.terms.AccountTerms.{AccountTerms}
@@ -19,17 +20,17 @@ use Rattle.sheet.specs.declared.values.Values.{Values}
 use Rattle.sheet.specs.Faults.{LineFault, and_then}
 use Rattle.sheet.specs.Fields.{with_fields, first_missing}
 use Rattle.sheet.specs.Names.{all_names, keys_of, name_among}
-use Rattle.sheet.specs.Values.{no_values, value_at, count_at, count_if_any, price_at, amount_at}
+use Rattle.sheet.specs.Values.{no_values, value_at, count_of, price_of, amount_of, number_or}
 use Rattle.sheet.specs.Words.{words}
 
 abbrev pub count : Values → Key → ℕ
-count vs k = count_at (value_at vs k)
+count vs k = number_or 0 count_of (value_at vs k)
 
 abbrev pub price : Values → Key → ℤ
-price vs k = price_at (value_at vs k)
+price vs k = number_or (pos 0) price_of (value_at vs k)
 
 abbrev pub amount : Values → Key → ℕ
-amount vs k = amount_at (value_at vs k)
+amount vs k = number_or 0 amount_of (value_at vs k)
 
 abbrev pub memory_keyed : Values → SetUp
 memory_keyed vs = setting.Memory (amount vs key.Orders) (amount vs key.Trades)
@@ -60,7 +61,7 @@ instrument_keyed vs =
     record {
       kind = count vs key.Kind;
       first = count vs key.First;
-      second = count_if_any (value_at vs key.Second);
+      second = option_and_then count_of (value_at vs key.Second);
       lower = price vs key.Lower;
       upper = price vs key.Upper;
     }

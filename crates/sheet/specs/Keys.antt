@@ -1,11 +1,11 @@
 -- The keys of a sheet's fields: their names, what kind of number each takes, and which may be left out.
 use Rattle.std.specs.Prelude.{◌≡◌, ℕ, Bool, true, false, List, [], ◌∷◌, Some, None, codes, Option, ◌≢◌}
+use Rattle.std.specs.List.{find}
 use Rattle.std.specs.Str.{bytes_eq}
 use Rattle.sheet.specs.declared.key.Key.{Key}
 use Rattle.sheet.specs.declared.key.Key.TheVariants.{Orders, Trades, Contract, Limit, Account, Amount, Underlying, LastDay, Lower, Settlement, Upper, W, R, Kind, First, Second, Participant, Taxpayer, Instrument, Direction, OrderType, Price, Size, Addressee, Reference, Expiry, Order, Date, Number}
 use Rattle.sheet.specs.declared.number_kind.NumberKind.{NumberKind}
 use Rattle.sheet.specs.declared.number_kind.NumberKind.TheVariants.{Unsigned, Signed, Long}
-use Rattle.sheet.specs.Firsts.{first_that}
 
 -- how a key is written
 abbrev pub key_name : Key → List ℕ
@@ -80,69 +80,24 @@ place Number = 28
 abbrev pub key_kind : Key → NumberKind
 key_kind Orders = Long
 key_kind Trades = Long
-key_kind Contract = Unsigned
-key_kind Limit = Unsigned
-key_kind Account = Unsigned
 key_kind Amount = Long
-key_kind Underlying = Unsigned
-key_kind LastDay = Unsigned
 key_kind Lower = Signed
 key_kind Settlement = Signed
 key_kind Upper = Signed
-key_kind W = Unsigned
-key_kind R = Unsigned
-key_kind Kind = Unsigned
-key_kind First = Unsigned
-key_kind Second = Unsigned
-key_kind Participant = Unsigned
-key_kind Taxpayer = Unsigned
-key_kind Instrument = Unsigned
-key_kind Direction = Unsigned
-key_kind OrderType = Unsigned
 key_kind Price = Signed
-key_kind Size = Unsigned
-key_kind Addressee = Unsigned
-key_kind Reference = Unsigned
-key_kind Expiry = Unsigned
-key_kind Order = Unsigned
-key_kind Date = Unsigned
-key_kind Number = Unsigned
+key_kind key = Unsigned
 
 -- the keys that an entry needs wherever it takes them; the others may be left out
 abbrev pub needed : Key → Bool
-needed Orders = true
-needed Trades = true
-needed Contract = true
-needed Limit = true
-needed Account = true
-needed Amount = true
-needed Underlying = true
-needed LastDay = true
-needed Lower = true
-needed Settlement = true
-needed Upper = true
-needed W = true
-needed R = true
-needed Kind = true
-needed First = true
 needed Second = false
-needed Participant = true
-needed Taxpayer = true
-needed Instrument = true
-needed Direction = true
-needed OrderType = true
-needed Price = true
-needed Size = true
 needed Addressee = false
 needed Reference = false
 needed Expiry = false
-needed Order = true
-needed Date = true
-needed Number = true
+needed key = true
 
 -- the first of these keys that is written so
 abbrev pub key_among : List Key → List ℕ → Option Key
-key_among keys text = first_that (λ key. bytes_eq (key_name key) text) keys
+key_among keys text = find (λ key. bytes_eq (key_name key) text) keys
 
 -- What looking a name up answers: the key that has it, or nothing where no key has it.
 abbrev pub KeyOf : List ℕ → Option Key → Type 0

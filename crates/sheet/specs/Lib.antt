@@ -2,7 +2,6 @@ pub mod Bytes
 pub mod Entries
 pub mod Faults
 pub mod Fields
-pub mod Firsts
 pub mod Keys
 pub mod Laws
 pub mod Names

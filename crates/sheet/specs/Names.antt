@@ -1,5 +1,6 @@
 -- The entries of a sheet: the name of each and the keys that it takes.
 use Rattle.std.specs.Prelude.{ℕ, cond, List, [], ◌∷◌, Some, None, codes, Option}
+use Rattle.std.specs.Option.{option_map, option_or}
 use Rattle.std.specs.Str.{bytes_eq}
 use Rattle.sheet.specs.declared.key.Key.{Key}
 use Rattle.sheet.specs.declared.key.Key.TheVariants.{Orders, Trades, Contract, Limit, Account, Amount, Underlying, LastDay, Lower, Settlement, Upper, W, R, Kind, First, Second, Participant, Taxpayer, Number}
@@ -57,12 +58,11 @@ after [] ws = Some ws
 after (t ∷ ts) [] = None
 after (t ∷ ts) (w ∷ ws) = cond (bytes_eq t w) (after ts ws) None
 
--- the name with which the words begin, with the words behind it, or else another
-abbrev pub or_other : Name → Option (List (List ℕ)) → Option (Name × List (List ℕ)) → Option (Name × List (List ℕ))
-or_other name None other = other
-or_other name (Some rest) other = Some (name, rest)
+-- the name with the words behind it, if the words begin with it
+abbrev pub begun : List (List ℕ) → Name → Option (Name × List (List ℕ))
+begun ws name = option_map {U = Name × List (List ℕ)} (λ rest. (name, rest)) (after (words (title name)) ws)
 
 -- the first of these names with which the words begin, with the words behind it
 unfoldable pub name_among : List Name → List (List ℕ) → Option (Name × List (List ℕ))
 name_among [] ws = None
-name_among (n ∷ ns) ws = or_other n (after (words (title n)) ws) (name_among ns ws)
+name_among (n ∷ ns) ws = option_or (begun ws n) (name_among ns ws)

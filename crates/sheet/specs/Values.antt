@@ -1,5 +1,7 @@
 -- The values of a line's fields, by key.
-use Rattle.std.specs.Prelude.{ℕ, length, replicate, ℤ, pos, Some, None, Option, slice_index_or, slice_set}
+use Rattle.std.specs.Prelude.{◌≡◌, ℕ, length, replicate, ℤ, Some, None, Option, Result, slice_index_or, slice_set, unwrap_or}
+use Rattle.std.specs.Option.{option_and_then}
+use Rattle.std.specs.Result.{result_ok}
 use Rattle.sheet.specs.declared.key.Key.{Key}
 use Rattle.sheet.specs.declared.value.Value.{Value}
 use Rattle.sheet.specs.declared.value.Value.TheVariants.{Count, Price, Amount}
@@ -17,27 +19,23 @@ value_at vs key = slice_index_or vs.given (place key) None
 abbrev pub with_value : Values → Key → Value → Values
 with_value vs key x = record { given = slice_set vs.given (place key) (Some x) }
 
--- the number of a value of one kind; nought, or none, where there is no value of that kind
-abbrev pub count_at : Option Value → ℕ
-count_at None = 0
-count_at (Some (Count n)) = n
-count_at (Some (Price p)) = 0
-count_at (Some (Amount n)) = 0
+-- the number that a value is, if it is of one kind
+abbrev pub count_of : Value → Option ℕ
+count_of (Count n) = Some n
+count_of other = None
 
-abbrev pub count_if_any : Option Value → Option ℕ
-count_if_any None = None
-count_if_any (Some (Count n)) = Some n
-count_if_any (Some (Price p)) = None
-count_if_any (Some (Amount n)) = None
+abbrev pub price_of : Value → Option ℤ
+price_of (Price p) = Some p
+price_of other = None
 
-abbrev pub price_at : Option Value → ℤ
-price_at None = pos 0
-price_at (Some (Count n)) = pos 0
-price_at (Some (Price p)) = p
-price_at (Some (Amount n)) = pos 0
+abbrev pub amount_of : Value → Option ℕ
+amount_of (Amount n) = Some n
+amount_of other = None
 
-abbrev pub amount_at : Option Value → ℕ
-amount_at None = 0
-amount_at (Some (Count n)) = 0
-amount_at (Some (Price p)) = 0
-amount_at (Some (Amount n)) = n
+-- a conversion of values, told by what it gives, gives the numbers of one kind
+abbrev pub Converts : {T E : Type 0} → (Value → Result T E → Type 0) → (Value → Option T) → Type 0
+Converts {T} {E} gives number_of = (x : Value) (r : Result T E) → gives x r → result_ok r ≡ number_of x
+
+-- the number of a value of one kind; nought where there is no value of that kind
+abbrev pub number_or : {T : Type 0} → T → (Value → Option T) → Option Value → T
+number_or nought number_of o = unwrap_or (option_and_then number_of o) nought

@@ -1,7 +1,7 @@
 use crate::key::Key;
 
 // Why a line is no entry, or an entry that cannot be taken. `T` is a piece of the line.
-#[derive(Clone, Copy)]
+#[derive(Clone, Copy, Debug, PartialEq, Eq)]
 pub enum Fault<T> {
     // no entry has this name; the line's first word
     UnknownName(T),

@@ -4,19 +4,19 @@ ghost use Rattle.sheet.specs.Fields.{field_key, with_text, with_field, with_fiel
 ghost use Rattle.sheet.specs.Values.{no_values};
 ghost use Rattle.sheet.specs.Words.{words};
 
-use crate::bytes::{Stop, cut, without_first};
+use crate::bytes::{cut, without_first};
 use crate::fault::Fault;
 use crate::key::Key;
 use crate::keys::key_among;
 use crate::numbers::value_of;
 use crate::values::Values;
-use crate::words::first_word;
+use crate::words::Words;
 
 // The one of these keys that stands before the word's first equals sign.
 fn field_key(keys: &[Key], word: &[u8]) -> Option<Key>
     ensures { result ≡ field_key keys.now word.now }
 {
-    let (name, rest) = cut(word, Stop::AtEquals);
+    let (name, rest) = cut(word, |byte| byte == b'=');
     if rest.is_empty() {
         None
     } else {
@@ -31,21 +31,17 @@ fn with_text<'l>(values: Values, key: Key, text: &'l [u8]) -> Result<Values, Fau
     if values.get(key).is_some() {
         return Err(Fault::Repeated(key));
     }
-    match value_of(key.kind(), text) {
-        None => Err(Fault::NotANumber(key)),
-        Some(value) => Ok(values.with(key, value)),
-    }
+    let value = value_of(key.kind(), text).ok_or(Fault::NotANumber(key))?;
+    Ok(values.with(key, value))
 }
 
 // The values with that of a field, whose key is one of those that the entry takes.
 fn with_field<'l>(keys: &[Key], values: Values, word: &'l [u8]) -> Result<Values, Fault<&'l [u8]>>
     ensures { told result ≡ with_field keys.now values word.now }
 {
-    let (name, rest) = cut(word, Stop::AtEquals);
-    match field_key(keys, word) {
-        None => Err(Fault::UnknownKey(name)),
-        Some(key) => with_text(values, key, without_first(rest)),
-    }
+    let (name, rest) = cut(word, |byte| byte == b'=');
+    let key = field_key(keys, word).ok_or(Fault::UnknownKey(name))?;
+    with_text(values, key, without_first(rest))
 }
 
 // The values of a line's fields, or the fault of the first word that has one.
@@ -53,10 +49,8 @@ pub fn read_fields<'l>(keys: &[Key], line: &'l [u8]) -> Result<Values, Fault<&'l
     ensures { told result ≡ with_fields keys.now no_values (words line.now) }
 {
     let mut values = Values::none();
-    let mut rest = line;
-    while let Some((word, behind)) = first_word(rest) {
+    for word in Words(line) {
         values = with_field(keys, values, word)?;
-        rest = behind;
     }
     Ok(values)
 }
@@ -71,10 +65,5 @@ fn is_missing(key: Key, values: &Values) -> bool
 pub fn first_missing(keys: &[Key], values: &Values) -> Option<Key>
     ensures { result ≡ first_missing keys.now values.now }
 {
-    for key in keys {
-        if is_missing(*key, values) {
-            return Some(*key);
-        }
-    }
-    None
+    keys.iter().copied().find(|key| is_missing(*key, values))
 }

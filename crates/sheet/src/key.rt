@@ -2,7 +2,7 @@
 pub(crate) const KEY_COUNT: usize = 29;
 
 // The keys of a sheet's fields.
-#[derive(Clone, Copy)]
+#[derive(Clone, Copy, Debug, PartialEq, Eq)]
 pub enum Key {
     Orders,
     Trades,

@@ -1,7 +1,6 @@
 ghost use Rattle.std.specs.Prelude.{◌≡◌, ◌<◌, length};
 ghost use Rattle.sheet.specs.Keys.{key_name, all_keys, place, key_kind, needed, key_among, KeyOf};
 
-use crate::bytes::is_same;
 use crate::key::{KEY_COUNT, Key};
 use crate::number_kind::NumberKind;
 
@@ -42,16 +41,13 @@ const ALL_KEYS: [Key; KEY_COUNT] = [
 pub fn key_among(keys: &[Key], text: &[u8]) -> Option<Key>
     ensures { result ≡ key_among keys.now text.now }
 {
-    for key in keys {
-        if is_same(key.name().as_bytes(), text) {
-            return Some(*key);
-        }
-    }
-    None
+    keys.iter()
+        .copied()
+        .find(|key| key.name().as_bytes() == text)
 }
 
 impl Key {
-    // How the key is written.
+    // How the key is written. It is compared with bytes of a line, so it is a text and no `Display`.
     pub fn name(self) -> &'static str
         ensures { result.now ≡ key_name self }
     {
@@ -88,7 +84,7 @@ impl Key {
         }
     }
 
-    // The key that is written so, if there is one.
+    // The key that is written so, if there is one. There is nothing to tell of another text, so this is no `TryFrom`.
     pub fn from_name(text: &[u8]) -> Option<Key>
         ensures value { result ≡ key_among all_keys text.now }
         ensures known { KeyOf text.now result }
@@ -119,9 +115,9 @@ impl Key {
     pub(crate) fn is_needed(self) -> bool
         ensures { result ≡ needed self }
     {
-        match self {
-            Key::Second | Key::Addressee | Key::Reference | Key::Expiry => false,
-            _ => true,
-        }
+        !matches!(
+            self,
+            Key::Second | Key::Addressee | Key::Reference | Key::Expiry
+        )
     }
 }

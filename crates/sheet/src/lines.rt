@@ -1,16 +1,13 @@
 ghost use Rattle.std.specs.Prelude.{◌≡◌, ◌<◌, length};
 ghost use Rattle.sheet.specs.Words.{without_return, first_line, after_line};
 
-use crate::bytes::{Stop, cut, without_first};
+use crate::bytes::{cut, without_first};
 
 // A line without the one carriage return that may stand at its end.
 fn without_return(line: &[u8]) -> &[u8]
     ensures { result.now ≡ without_return line.now }
 {
-    match line {
-        [before @ .., b'\r'] => before,
-        _ => line,
-    }
+    line.strip_suffix(b"\r").unwrap_or(line)
 }
 
 // The first line of a text and what stands behind it. The line ends at a line feed, which belongs to neither, or with the
@@ -20,6 +17,6 @@ pub fn next_line(text: &[u8]) -> (&[u8], &[u8])
     ensures rest { result.1.now ≡ after_line text.now }
     ensures shorter { 0 < length text.now → length result.1.now < length text.now }
 {
-    let (line, rest) = cut(text, Stop::AtLineFeed);
+    let (line, rest) = cut(text, |byte| byte == b'\n');
     (without_return(line), without_first(rest))
 }

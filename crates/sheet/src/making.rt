@@ -15,8 +15,8 @@ fn memory_keyed(values: &Values) -> SetUp
     ensures { result ≡ memory_keyed values.now }
 {
     SetUp::Memory {
-        orders: values.amount(Key::Orders),
-        trades: values.amount(Key::Trades),
+        orders: values.number(Key::Orders),
+        trades: values.number(Key::Trades),
     }
 }
 
@@ -24,8 +24,8 @@ fn lots_keyed(values: &Values) -> SetUp
     ensures { result ≡ lots_keyed values.now }
 {
     SetUp::Lots {
-        contract: values.count(Key::Contract),
-        limit: values.count(Key::Limit),
+        contract: values.number(Key::Contract),
+        limit: values.number(Key::Limit),
     }
 }
 
@@ -33,8 +33,8 @@ fn pledge_keyed(values: &Values) -> SetUp
     ensures { result ≡ pledge_keyed values.now }
 {
     SetUp::Pledge {
-        account: values.count(Key::Account),
-        amount: values.amount(Key::Amount),
+        account: values.number(Key::Account),
+        amount: values.number(Key::Amount),
     }
 }
 
@@ -42,8 +42,8 @@ fn margin_keyed(values: &Values) -> SetUp
     ensures { result ≡ margin_keyed values.now }
 {
     SetUp::Margin {
-        contract: values.count(Key::Contract),
-        amount: values.amount(Key::Amount),
+        contract: values.number(Key::Contract),
+        amount: values.number(Key::Amount),
     }
 }
 
@@ -51,13 +51,13 @@ fn contract_keyed(values: &Values) -> ContractTerms
     ensures { result ≡ contract_keyed values.now }
 {
     ContractTerms {
-        underlying: values.count(Key::Underlying),
-        last_day: values.count(Key::LastDay),
-        lower: values.price(Key::Lower),
-        settlement: values.price(Key::Settlement),
-        upper: values.price(Key::Upper),
-        w: values.count(Key::W),
-        r: values.count(Key::R),
+        underlying: values.number(Key::Underlying),
+        last_day: values.number(Key::LastDay),
+        lower: values.number(Key::Lower),
+        settlement: values.number(Key::Settlement),
+        upper: values.number(Key::Upper),
+        w: values.number(Key::W),
+        r: values.number(Key::R),
     }
 }
 
@@ -65,11 +65,11 @@ fn instrument_keyed(values: &Values) -> InstrumentTerms
     ensures { result ≡ instrument_keyed values.now }
 {
     InstrumentTerms {
-        kind: values.count(Key::Kind),
-        first: values.count(Key::First),
-        second: values.count_if_any(Key::Second),
-        lower: values.price(Key::Lower),
-        upper: values.price(Key::Upper),
+        kind: values.number(Key::Kind),
+        first: values.number(Key::First),
+        second: values.number_if_any(Key::Second),
+        lower: values.number(Key::Lower),
+        upper: values.number(Key::Upper),
     }
 }
 
@@ -77,8 +77,8 @@ fn account_keyed(values: &Values) -> AccountTerms
     ensures { result ≡ account_keyed values.now }
 {
     AccountTerms {
-        participant: values.count(Key::Participant),
-        taxpayer: values.count(Key::Taxpayer),
+        participant: values.number(Key::Participant),
+        taxpayer: values.number(Key::Taxpayer),
     }
 }
 
@@ -86,8 +86,8 @@ fn position_keyed(values: &Values) -> Question
     ensures { result ≡ position_keyed values.now }
 {
     Question::Position {
-        account: values.count(Key::Account),
-        contract: values.count(Key::Contract),
+        account: values.number(Key::Account),
+        contract: values.number(Key::Contract),
     }
 }
 
@@ -106,13 +106,13 @@ pub fn entry_of(name: Name, values: &Values) -> Entry
         Name::AdmitAccount => Entry::Call(Call::AdmitAccount(account_keyed(values))),
         Name::Resume => Entry::Call(Call::Resume),
         Name::Suspend => Entry::Call(Call::Suspend),
-        Name::ShowContract => Entry::Question(Question::Contract(values.count(Key::Number))),
-        Name::ShowInstrument => Entry::Question(Question::Instrument(values.count(Key::Number))),
-        Name::ShowAccount => Entry::Question(Question::Account(values.count(Key::Number))),
+        Name::ShowContract => Entry::Question(Question::Contract(values.number(Key::Number))),
+        Name::ShowInstrument => Entry::Question(Question::Instrument(values.number(Key::Number))),
+        Name::ShowAccount => Entry::Question(Question::Account(values.number(Key::Number))),
         Name::ShowPosition => Entry::Question(position_keyed(values)),
-        Name::ShowMoney => Entry::Question(Question::Money(values.count(Key::Account))),
-        Name::ShowOrder => Entry::Question(Question::Order(values.count(Key::Number))),
-        Name::ShowTrade => Entry::Question(Question::Trade(values.count(Key::Number))),
+        Name::ShowMoney => Entry::Question(Question::Money(values.number(Key::Account))),
+        Name::ShowOrder => Entry::Question(Question::Order(values.number(Key::Number))),
+        Name::ShowTrade => Entry::Question(Question::Trade(values.number(Key::Number))),
         Name::ShowMarket => Entry::Question(Question::Market),
     }
 }

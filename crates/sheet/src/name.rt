@@ -1,5 +1,5 @@
 // The names of the entries of a sheet.
-#[derive(Clone, Copy)]
+#[derive(Clone, Copy, Debug, PartialEq, Eq)]
 pub enum Name {
     Memory,
     Lots,

@@ -1,12 +1,11 @@
 ghost use Rattle.std.specs.Prelude.{◌≡◌};
 ghost use Rattle.std.specs.Option.{option_map};
-ghost use Rattle.sheet.specs.Names.{title, keys_of, all_names, after, name_among};
+ghost use Rattle.sheet.specs.Names.{title, keys_of, all_names, after, begun, name_among};
 ghost use Rattle.sheet.specs.Words.{words};
 
-use crate::bytes::is_same;
 use crate::key::Key;
 use crate::name::Name;
-use crate::words::first_word;
+use crate::words::Words;
 
 // Every name.
 const ALL_NAMES: [Name; 17] = [
@@ -30,7 +29,7 @@ const ALL_NAMES: [Name; 17] = [
 ];
 
 impl Name {
-    // The word or words of the name.
+    // The word or words of the name. They are compared with bytes of a line, so they are a text and no `Display`.
     pub fn title(self) -> &'static str
         ensures { result.now ≡ title self }
     {
@@ -93,29 +92,27 @@ impl Name {
 fn after_title<'l>(title: &[u8], line: &'l [u8]) -> Option<&'l [u8]>
     ensures { option_map (λ rest. words rest.now) result ≡ after (words title.now) (words line.now) }
 {
-    let mut wanted = title;
-    let mut rest = line;
-    while let Some((part, parts)) = first_word(wanted) {
-        let (word, behind) = first_word(rest)?;
-        if !is_same(part, word) {
+    let mut left = Words(line);
+    for part in Words(title) {
+        if part != left.next()? {
             return None;
         }
-        wanted = parts;
-        rest = behind;
     }
-    Some(rest)
+    Some(left.0)
+}
+
+// The name, and what stands behind it, if the line begins with it.
+fn name_before<'l>(name: Name, line: &'l [u8]) -> Option<(Name, &'l [u8])>
+    ensures { option_map (λ p. (p.0, words p.1.now)) result ≡ begun (words line.now) name }
+{
+    after_title(name.title().as_bytes(), line).map(|rest| (name, rest))
 }
 
 // The first of these names with which the line begins, and what stands behind it.
 fn name_among<'l>(names: &[Name], line: &'l [u8]) -> Option<(Name, &'l [u8])>
     ensures { option_map (λ p. (p.0, words p.1.now)) result ≡ name_among names.now (words line.now) }
 {
-    for name in names {
-        if let Some(rest) = after_title(name.title().as_bytes(), line) {
-            return Some((*name, rest));
-        }
-    }
-    None
+    names.iter().find_map(|name| name_before(*name, line))
 }
 
 // The name with which the line begins, if it is one of an entry, and what stands behind it.

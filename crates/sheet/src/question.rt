@@ -1,5 +1,5 @@
 // A question to the market. A record is asked for by its number.
-#[derive(Clone, Copy)]
+#[derive(Clone, Copy, Debug, PartialEq, Eq)]
 pub enum Question {
     Contract(u32),
     Instrument(u32),

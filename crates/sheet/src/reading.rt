@@ -9,16 +9,13 @@ use crate::fields::{first_missing, read_fields};
 use crate::making::entry_of;
 use crate::name::Name;
 use crate::names::name_of;
-use crate::words::first_word;
+use crate::words::Words;
 
 // A remark begins with the sign #.
 fn is_remark(word: &[u8]) -> bool
     ensures { result ≡ remark word.now }
 {
-    match word {
-        [b'#', ..] => true,
-        _ => false,
-    }
+    word.first() == Some(&b'#')
 }
 
 // The entry of a name, with its fields.
@@ -36,14 +33,12 @@ fn entry_with<'l>(name: Name, fields: &'l [u8]) -> Result<Entry, Fault<&'l [u8]>
 pub fn read_line(line: &[u8]) -> Result<Option<Entry>, Fault<&[u8]>>
     ensures { told result ≡ line_read line.now }
 {
-    let Some((word, _)) = first_word(line) else {
+    let Some(word) = Words(line).next() else {
         return Ok(None);
     };
     if is_remark(word) {
         return Ok(None);
     }
-    match name_of(line) {
-        None => Err(Fault::UnknownName(word)),
-        Some((name, fields)) => Ok(Some(entry_with(name, fields)?)),
-    }
+    let (name, fields) = name_of(line).ok_or(Fault::UnknownName(word))?;
+    entry_with(name, fields).map(Some)
 }

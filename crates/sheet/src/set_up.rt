@@ -1,5 +1,5 @@
 // What a sheet settles before its first call or question.
-#[derive(Clone, Copy)]
+#[derive(Clone, Copy, Debug, PartialEq, Eq)]
 pub enum SetUp {
     // how many places the host lends for orders and for trades
     Memory { orders: u64, trades: u64 },

@@ -1,10 +1,12 @@
-ghost use Rattle.std.specs.Prelude.{◌≡◌};
-ghost use Rattle.sheet.specs.Values.{no_values, value_at, with_value, count_at, count_if_any, price_at, amount_at};
+ghost use Rattle.std.specs.Prelude.{◌≡◌, Option};
+ghost use Rattle.std.specs.Option.{option_and_then};
+ghost use Rattle.sheet.specs.declared.value.Value.{Value};
+ghost use Rattle.sheet.specs.Values.{no_values, value_at, with_value, Converts, number_or};
 
 use crate::key::{KEY_COUNT, Key};
 use crate::value::Value;
 
-// The values of a line's fields, each at the place of its key.
+// The values of a line's fields, each at the place of its key: reading a line takes no memory, so this is no map.
 #[derive(Clone, Copy)]
 pub struct Values {
     given: [Option<Value>; KEY_COUNT],
@@ -28,51 +30,24 @@ impl Values {
     }
 
     // The values with one of a further key.
-    pub fn with(self, key: Key, value: Value) -> Values
+    pub fn with(mut self, key: Key, value: Value) -> Values
         ensures { result ≡ with_value self key value }
     {
-        let mut given = self.given;
-        given[key.place()] = Some(value);
-        Values { given }
+        self.given[key.place()] = Some(value);
+        self
     }
 
-    // The unsigned number of a key, if it was given.
-    pub fn count_if_any(&self, key: Key) -> Option<u32>
-        ensures { result ≡ count_if_any (value_at self.now key) }
+    // The number of a key, if one of this kind was given.
+    pub fn number_if_any<T: TryFrom<Value, Error = Value>>(&self, key: Key) -> Option<T>
+        ensures { (number_of : Value → Option T) → Converts T.try_from_gives number_of → result ≡ option_and_then number_of (value_at self.now key) }
     {
-        match self.get(key) {
-            Some(Value::Count(n)) => Some(n),
-            _ => None,
-        }
+        self.get(key).and_then(|value| T::try_from(value).ok())
     }
 
-    // The unsigned number of a key, nought where there is none.
-    pub fn count(&self, key: Key) -> u32
-        ensures { result ≡ count_at (value_at self.now key) }
+    // The number of a key, nought where none of this kind was given.
+    pub fn number<T: TryFrom<Value, Error = Value> + Default>(&self, key: Key) -> T
+        ensures { (nought : T) (number_of : Value → Option T) → ((x : T) → T.is_default x → x ≡ nought) → Converts T.try_from_gives number_of → result ≡ number_or nought number_of (value_at self.now key) }
     {
-        match self.get(key) {
-            Some(Value::Count(n)) => n,
-            _ => 0,
-        }
-    }
-
-    // The signed number of a key, nought where there is none.
-    pub fn price(&self, key: Key) -> i32
-        ensures { result ≡ price_at (value_at self.now key) }
-    {
-        match self.get(key) {
-            Some(Value::Price(p)) => p,
-            _ => 0,
-        }
-    }
-
-    // The long number of a key, nought where there is none.
-    pub fn amount(&self, key: Key) -> u64
-        ensures { result ≡ amount_at (value_at self.now key) }
-    {
-        match self.get(key) {
-            Some(Value::Amount(n)) => n,
-            _ => 0,
-        }
+        self.number_if_any(key).unwrap_or_default()
     }
 }

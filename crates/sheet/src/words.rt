@@ -1,16 +1,35 @@
 ghost use Rattle.std.specs.Prelude.{◌≡◌, ◌<◌, [], ◌∷◌, length, IfSome, MatchOption};
+ghost use Rattle.std.specs.Iterator.{YieldsFirstRef, item_count};
 ghost use Rattle.sheet.specs.Words.{words};
 
-use crate::bytes::{Stop, cut};
+use crate::bytes::{cut, is_blank};
+
+// The words that are left of a line.
+#[derive(Clone, Copy)]
+pub struct Words<'l>(pub &'l [u8]);
+
+impl<'l> Iterator for Words<'l> {
+    type Item = &'l [u8];
+
+    ghost next_gives = { YieldsFirstRef (λ s. words s.0.now) };
+
+    ghost remaining = { item_count (λ s. words s.0.now) };
+
+    fn next(&mut self) -> Option<&'l [u8]> {
+        let (word, rest) = first_word(self.0)?;
+        self.0 = rest;
+        Some(word)
+    }
+}
 
 // The first word of a line, and what stands behind it.
 pub fn first_word(line: &[u8]) -> Option<(&[u8], &[u8])>
     ensures value { MatchOption result (words line.now ≡ []) (λ p. words line.now ≡ p.0.now ∷ words p.1.now) }
     ensures shorter { IfSome result (λ p. length p.1.now < length line.now) }
 {
-    let (_, inked) = cut(line, Stop::AtInk);
+    let (_, inked) = cut(line, |byte| !is_blank(byte));
     if inked.is_empty() {
         return None;
     }
-    Some(cut(inked, Stop::AtBlank))
+    Some(cut(inked, is_blank))
 }

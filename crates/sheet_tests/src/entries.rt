@@ -66,59 +66,78 @@ fn account(line: &[u8]) -> Option<(u32, u32)> {
     }
 }
 
-// The two numbers of a set-up entry.
-fn settled(line: &[u8]) -> (u64, u64) {
+fn settled(line: &[u8]) -> Option<SetUp> {
     match read_line(line) {
-        Ok(Some(Entry::SetUp(SetUp::Memory { orders, trades }))) => (orders, trades),
-        Ok(Some(Entry::SetUp(SetUp::Lots { contract, limit }))) => (
-            u64::from(contract),
-            u64::from(limit),
-        ),
-        Ok(Some(Entry::SetUp(SetUp::Pledge { account, amount }))) => (u64::from(account), amount),
-        Ok(Some(Entry::SetUp(SetUp::Margin { contract, amount }))) => (u64::from(contract), amount),
-        _ => (0, 0),
+        Ok(Some(Entry::SetUp(set_up))) => Some(set_up),
+        _ => None,
     }
 }
 
 #[test]
 fn set_up_entries_and_accounts(rt: HostRuntime) {
-    assert_eq!(rt; settled(b"memory trades=6 orders=5"), (5, 6));
-    assert_eq!(rt; settled(b"lots limit=4 contract=3"), (3, 4));
-    assert_eq!(rt; settled(b"pledge account=1 amount=9"), (1, 9));
-    assert_eq!(rt; settled(b"margin contract=2 amount=8"), (2, 8));
+    assert_eq!(rt;
+        settled(b"memory trades=6 orders=5"),
+        Some(SetUp::Memory {
+            orders: 5,
+            trades: 6
+        })
+    );
+    assert_eq!(rt;
+        settled(b"lots limit=4 contract=3"),
+        Some(SetUp::Lots {
+            contract: 3,
+            limit: 4
+        })
+    );
+    assert_eq!(rt;
+        settled(b"pledge account=1 amount=9"),
+        Some(SetUp::Pledge {
+            account: 1,
+            amount: 9
+        })
+    );
+    assert_eq!(rt;
+        settled(b"margin contract=2 amount=8"),
+        Some(SetUp::Margin {
+            contract: 2,
+            amount: 8
+        })
+    );
     assert_eq!(rt;
         account(b"admit account taxpayer=501 participant=11"),
         Some((11, 501))
     );
 }
 
-// A number for each question, and the numbers that it asks for.
-fn asked(line: &[u8]) -> (u8, u32, u32) {
+fn asked(line: &[u8]) -> Option<Question> {
     match read_line(line) {
-        Ok(Some(Entry::Question(Question::Contract(n)))) => (1, n, 0),
-        Ok(Some(Entry::Question(Question::Instrument(n)))) => (2, n, 0),
-        Ok(Some(Entry::Question(Question::Account(n)))) => (3, n, 0),
-        Ok(Some(Entry::Question(Question::Position { account, contract }))) => (
-            4, account, contract,
-        ),
-        Ok(Some(Entry::Question(Question::Money(n)))) => (5, n, 0),
-        Ok(Some(Entry::Question(Question::Order(n)))) => (6, n, 0),
-        Ok(Some(Entry::Question(Question::Trade(n)))) => (7, n, 0),
-        Ok(Some(Entry::Question(Question::Market))) => (8, 0, 0),
-        _ => (0, 0, 0),
+        Ok(Some(Entry::Question(question))) => Some(question),
+        _ => None,
     }
 }
 
 #[test]
 fn questions(rt: HostRuntime) {
-    assert_eq!(rt; asked(b"show contract number=1"), (1, 1, 0));
-    assert_eq!(rt; asked(b"show instrument number=2"), (2, 2, 0));
-    assert_eq!(rt; asked(b"show account number=3"), (3, 3, 0));
-    assert_eq!(rt; asked(b"show position contract=5 account=4"), (4, 4, 5));
-    assert_eq!(rt; asked(b"show money account=6"), (5, 6, 0));
-    assert_eq!(rt; asked(b"show order number=7"), (6, 7, 0));
-    assert_eq!(rt; asked(b"show trade number=8"), (7, 8, 0));
-    assert_eq!(rt; asked(b"show market"), (8, 0, 0));
+    assert_eq!(rt;
+        asked(b"show contract number=1"),
+        Some(Question::Contract(1))
+    );
+    assert_eq!(rt;
+        asked(b"show instrument number=2"),
+        Some(Question::Instrument(2))
+    );
+    assert_eq!(rt; asked(b"show account number=3"), Some(Question::Account(3)));
+    assert_eq!(rt;
+        asked(b"show position contract=5 account=4"),
+        Some(Question::Position {
+            account: 4,
+            contract: 5
+        })
+    );
+    assert_eq!(rt; asked(b"show money account=6"), Some(Question::Money(6)));
+    assert_eq!(rt; asked(b"show order number=7"), Some(Question::Order(7)));
+    assert_eq!(rt; asked(b"show trade number=8"), Some(Question::Trade(8)));
+    assert_eq!(rt; asked(b"show market"), Some(Question::Market));
 }
 
 // The title of the name of a line's entry.

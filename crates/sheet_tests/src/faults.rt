@@ -82,10 +82,7 @@ fn the_first_fault_is_told(rt: HostRuntime) {
 
 // The name of the key that is written so.
 fn known(text: &[u8]) -> &'static str {
-    match Key::from_name(text) {
-        Some(key) => key.name(),
-        None => "",
-    }
+    Key::from_name(text).map_or("", Key::name)
 }
 
 #[test]

@@ -1,16 +1,18 @@
-ghost use Rattle.std.specs.Prelude.{◌≡◌, ◌+◌, ◌<◌, ◌≤◌, [], ◌∷◌, ◌++◌, length, Some, None};
-ghost use Rattle.records.specs.Registers.{numbered};
+ghost use Rattle.std.specs.Prelude.{◌≡◌, ◌+◌, ◌<◌, ◌≤◌, [], ◌∷◌, ◌++◌, length, Some, None, All};
+ghost use Rattle.std.specs.List.{AllZip};
+ghost use Rattle.records.specs.Registers.{numbered, replaced};
 ghost use Rattle.tables.specs.Tables.{entered};
 
 use crate::table::Table;
 use records::numbering::record_of;
 
-// The number of the record at this place.
-fn number_at(place: usize, most: usize) -> usize
-    requires { place < most }
-    ensures { result ≡ place + 1 }
+fn change_all<T: Copy, F: Fn(T) -> T>(records: &mut [T], rule: F)
+    requires { All (F.pre rule) records.old }
+    ensures { AllZip (F.post rule) records.old records.new }
 {
-    place + 1
+    for record in records.iter_mut() {
+        *record = rule(*record);
+    }
 }
 
 impl<T: Copy, const N: usize> Table<T, N> {
@@ -51,13 +53,32 @@ impl<T: Copy, const N: usize> Table<T, N> {
         ensures more { length (entered self.old) < N → (result ≡ Some (length (entered self.old) + 1)) × (entered self.new ≡ entered self.old ++ new ∷ []) }
         ensures full { N ≤ length (entered self.old) → (result ≡ None) × (self.new ≡ self.old) }
     {
-        let n = self.count;
-        if n >= N {
+        if self.count >= N {
             return None;
         }
-        self.places[n] = new;
-        let number = number_at(n, N);
-        self.count = number;
-        Some(number)
+        self.places[self.count] = new;
+        self.count += 1;
+        Some(self.count)
+    }
+
+    // Puts a record in the place of the one that has this number, and answers that one; at an unknown number nothing changes.
+    pub fn replace(&mut self, number: usize, new: T) -> Option<T>
+        ensures old { result ≡ numbered (entered self.old) number }
+        ensures entered { entered self.new ≡ replaced (entered self.old) number new }
+        ensures unknown { result ≡ None → self.new ≡ self.old }
+    {
+        let old = self.get(number)?;
+        self.places[number - 1] = new;
+        Some(old)
+    }
+
+    // Changes each record to what the rule makes of it.
+    pub fn change_each<F: Fn(T) -> T>(&mut self, rule: F)
+        requires { All (F.pre rule) (entered self.old) }
+        ensures { AllZip (F.post rule) (entered self.old) (entered self.new) }
+    {
+        let n = self.count;
+        let places = &mut self.places[..];
+        change_all(&mut places[0..n], rule);
     }
 }

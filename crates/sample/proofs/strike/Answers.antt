@@ -18,14 +18,14 @@ passed p fits h = ap price_in_range (to_z-of_z w32 p fits) ∙ h
 pub trade_price-first-requires : goal.trade_price-first-requires
 trade_price-first-requires g c =
     let fits : SFits w32 c.args.struck.now.price = search rules in
-    record { leg = there First c.legs.result _ _ c.legs.ensures c.in-One.is refl; price = passed c.args.struck.now.price fits c.requires.price }
+    record { leg = there First c.legs.result _ _ c.legs.ensures c.in-One.is refl; price = passed c.args.struck.now.price fits c.requires }
 
 pub trade_price-first-requires-in-Two : goal.trade_price-first-requires-in-Two
 trade_price-first-requires-in-Two g c =
     let fits : SFits w32 c.args.struck.now.price = search rules in
-    record { leg = there First c.legs.result _ _ c.legs.ensures c.in-Two.is refl; price = passed c.args.struck.now.price fits c.requires.price }
+    record { leg = there First c.legs.result _ _ c.legs.ensures c.in-Two.is refl; price = passed c.args.struck.now.price fits c.requires }
 
 pub trade_price-second-requires : goal.trade_price-second-requires
 trade_price-second-requires g c =
     let fits : SFits w32 c.args.struck.now.price = search rules in
-    record { leg = there Second c.legs.result _ _ c.legs.ensures c.in-Two.is refl; price = passed c.args.struck.now.price fits c.requires.price }
+    record { leg = there Second c.legs.result _ _ c.legs.ensures c.in-Two.is refl; price = passed c.args.struck.now.price fits c.requires }

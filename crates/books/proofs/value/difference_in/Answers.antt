@@ -1,12 +1,7 @@
-use Rattle.std.proofs.Common.{arith, w32, SFits, rules}
-use Rattle.books.proofs.Values.{settlement_small, gained_is, gained_small}
+use Rattle.std.proofs.Common.{arith}
+use Rattle.std.proofs.lemmas.Int.{ints}
+use Rattle.books.proofs.Values.{settlement_small}
 use Rattle.books.proofs.value.difference_in.Goals as goal
 
-pub returns : goal.returns
-returns c =
-    let fits : SFits w32 c.args.contract.now.terms.settlement = search rules in
-    let small = gained_small c.args.contract.now c.args.contract.now.terms.settlement c.args.price fits c.ranges.price c.gained.result c.gained.type_inv c.gained.ensures.bound in
-    record {
-      value = gained_is c.args.contract.now c.args.contract.now.terms.settlement c.args.price fits c.ranges.price c.gained.result c.gained.type_inv c.gained.ensures.value;
-      bound = λ h. omega (arith, small, h, settlement_small c.args.contract.now);
-    }
+pub returns-clause-bound : goal.returns-clause-bound
+returns-clause-bound c = λ h. omega (arith, ints, settlement_small c.args.contract.now)

@@ -1,16 +1,22 @@
-use Rattle.books.proofs.Values.{factor_small, divisor_positive, divided_small, result_is, result_bounded}
+use Rattle.std.proofs.Common.{◌≡◌, pos, arith, w64, to_z, of_z}
+use Rattle.std.proofs.lemmas.Int.{ints, to_z-of_z}
+use Rattle.books.proofs.Values.{divisor_positive, value_fits, value_bounded, quotient}
 use Rattle.books.proofs.value.value_in.Goals as goal
 
-pub times-requires : goal.times-requires
-times-requires c = factor_small c.args.contract.now
-
-pub divided-requires : goal.divided-requires
-divided-requires c =
-    (divisor_positive c.args.contract.now, divided_small c.args.contract.now c.args.price c.ranges.price c.times.result c.times.ensures)
+pub nonzero_div-result : goal.nonzero_div-result
+nonzero_div-result c =
+    let contract = c.args.contract.now in
+    let p : to_z w64 (of_z w64 c.from.result) ≡ c.args.price = omega (arith, ints) in
+    let w : to_z w64 (of_z w64 c.from-2.result) ≡ pos contract.terms.w = omega (arith, ints) in
+    let r : to_z w64 (of_z w64 c.from-3.result) ≡ pos contract.terms.r = omega (arith, ints) in
+    (omega (arith, ints, divisor_positive contract), rw (quotient contract c.args.price c.ranges.price p w r) (value_fits contract c.args.price c.ranges.price))
 
 pub returns : goal.returns
 returns c =
-    record {
-      value = result_is c.args.contract.now c.args.price c.ranges.price c.times.result c.times.ensures c.divided.result c.divided.type_inv c.divided.ensures;
-      bound = result_bounded c.args.contract.now c.args.price c.ranges.price c.times.result c.times.ensures c.divided.result c.divided.type_inv c.divided.ensures;
-    }
+    let contract = c.args.contract.now in
+    let p : to_z w64 (of_z w64 c.from.result) ≡ c.args.price = omega (arith, ints) in
+    let w : to_z w64 (of_z w64 c.from-2.result) ≡ pos contract.terms.w = omega (arith, ints) in
+    let r : to_z w64 (of_z w64 c.from-3.result) ≡ pos contract.terms.r = omega (arith, ints) in
+    let q = quotient contract c.args.price c.ranges.price p w r in
+    let f = value_fits contract c.args.price c.ranges.price in
+    record { value = rw (q, to_z-of_z w64 _ f); bound = rw (q, to_z-of_z w64 _ f) (value_bounded contract c.args.price) }

@@ -1,9 +1,12 @@
-use Rattle.std.proofs.Common.{◌+◌, ◌-◌, ◌++◌, length, string_bytes}
+use Rattle.std.proofs.Common.{◌≡◌, length}
 use Rattle.market.specs.Views.{view}
-use Rattle.desk.specs.Days.{lines, lines_of, trading, ComesTo}
+use Rattle.desk.specs.Days.{shown, followed_by, trading, begun_by, lines}
 use Rattle.desk.proofs.day.trade.Given as goal
 
-abbrev pub invariant-loop-i : goal.invariant-loop-i
-invariant-loop-i g l =
-    ComesTo (string_bytes l.printed) l.all_read (trading (view l.market) (l.before + l.i + 1) (lines_of (length l.text - l.i) l.rest))
-    (string_bytes l.initial.printed ++ (trading (view l.initial.market) (l.before + 1) (lines l.text)).text) (trading (view l.initial.market) (l.before + 1) (lines l.text)).all_read
+abbrev pub invariant-loop-market : goal.invariant-loop-market
+invariant-loop-market g l =
+    followed_by (shown l.printed) (trading (view l.market) l.unread.number (lines l.unread.text.now))
+    ≡ followed_by (shown l.fn.printed) (trading (begun_by l.fn.ready.host) l.fn.ready.unread.number (lines l.fn.ready.unread.text.now))
+
+abbrev pub decreases-loop-market : goal.decreases-loop-market
+decreases-loop-market g l = length l.unread.text.now

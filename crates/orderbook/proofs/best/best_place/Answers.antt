@@ -27,8 +27,3 @@ loop-i-preserved c =
       | then-is_candidate+in-Some+else-is_better w ↦ grind arith
       | else-is_candidate w ↦ grind arith
     ]
-
-pub returns : goal.returns
-returns c =
-    let e : c.loop-i.i ≡ length c.args.rows.now = omega arith in
-    c.loop-i.invariant ∙ ap (best_below c.args.accounts.now c.args.me.now c.args.rows.now) e

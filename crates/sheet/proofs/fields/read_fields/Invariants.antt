@@ -1,4 +1,4 @@
-use Rattle.std.proofs.Common.{◌≡◌, length}
+use Rattle.std.proofs.Common.{◌≡◌}
 use Rattle.sheet.specs.Fields.{with_fields}
 use Rattle.sheet.specs.Values.{no_values}
 use Rattle.sheet.specs.Words.{words}
@@ -6,7 +6,4 @@ use Rattle.sheet.proofs.fields.read_fields.Given as goal
 
 -- the words left, behind the values so far, have the answer
 abbrev pub invariant-loop-word : goal.invariant-loop-word
-invariant-loop-word l = with_fields l.keys l.values (words l.rest) ≡ with_fields l.keys no_values (words l.line)
-
-abbrev pub decreases-loop-word : goal.decreases-loop-word
-decreases-loop-word l = length l.rest
+invariant-loop-word l = with_fields l.keys l.values (words l.word-iterator.0.now) ≡ with_fields l.keys no_values (words l.line)

@@ -1,23 +1,14 @@
-use Rattle.std.proofs.Common.{◌≡◌, get_or, Some, None, sym, ◌∙◌, arith}
-use Rattle.sheet.specs.declared.name.Name.TheVariants.{Memory}
-use Rattle.sheet.specs.Names.{title, after}
+use Rattle.std.proofs.Common.{rules, ◌≡◌, ap, ◌∙◌, subst}
+use Rattle.std.specs.Iterator.Runs.{ItemsMapTo}
+use Rattle.std.specs.Slice.Iter.{iter_rest}
 use Rattle.sheet.specs.Words.{words}
-use Rattle.sheet.proofs.Titles.{hit, miss, no_more}
+use Rattle.sheet.proofs.Titles.{found}
 use Rattle.sheet.proofs.names.name_among.Goals as goal
-
-pub returns-in-Some : goal.returns-in-Some
-returns-in-Some c =
-    let t = c.in-Some.ensures in
-    let e : after (words (title (get_or c.args.names.now c.loop-name.name-index Memory))) (words c.args.line.now) ≡ Some (words c.in-Some.rest.now) = cc in
-    sym (hit c.args.names.now c.loop-name.name-index Memory (words c.args.line.now) (words c.in-Some.rest.now) (omega arith) e)
-    ∙ c.loop-name.invariant
-
-pub loop-name-preserved : goal.loop-name-preserved
-loop-name-preserved c =
-    let t = c.in_default.ensures in
-    let e : after (words (title (get_or c.args.names.now c.loop-name.name-index Memory))) (words c.args.line.now) ≡ None = cc in
-    sym (miss c.args.names.now c.loop-name.name-index Memory (words c.args.line.now) (omega arith) e) ∙ c.loop-name.invariant
 
 pub returns : goal.returns
 returns c =
-    sym (no_more c.args.names.now c.loop-name.name-index (words c.args.line.now) c.loop-name-test.false) ∙ c.loop-name.invariant
+    let r = c.find_map.ensures.runs in
+    let all : iter_rest r.0.from ≡ c.args.names.now = ap iter_rest r.1 ∙ c.iter.ensures.rest in
+    found _ _ (λ p. (p.0, words p.1.now)) (words c.args.line.now) (λ x o q k. search rules) r.0 c.args.names.now c.find_map.result
+    (subst (ItemsMapTo r.0 (λ y. y.now)) all (c.iter.ensures.runs r.0 r.0.seen))
+    r.2

@@ -1,28 +1,20 @@
-use Rattle.std.proofs.Common.{◌≡◌, None, sym, ◌∙◌, arith, true-eqb, false-eqb}
-use Rattle.sheet.proofs.Numerals.{stopped, went_on, ended, begun, empty}
+use Rattle.std.proofs.Common.{◌≡◌, ◌≤◌, ℕ, cond, None, Some, sym, subst, arith, rules, true-eqb, false-eqb, ◌∙◌, ap}
+use Rattle.std.specs.Option.{IfSome}
+use Rattle.sheet.specs.Numbers.{digit, up_to, number_from, number_up_to}
+use Rattle.sheet.proofs.Folds.{answer_from_try_fold}
+use Rattle.sheet.proofs.Numerals.{next, out, on, ended, begun, empty, within}
 use Rattle.sheet.proofs.numbers.number_up_to.Goals as goal
 
 pub returns-then-is_empty : goal.returns-then-is_empty
 returns-then-is_empty c =
     record { value = sym (empty c.args.most c.args.text.now (true-eqb _ _ c.if-is_empty.ensures)); within = tt }
 
-pub loop-byte-init : goal.loop-byte-init
-loop-byte-init c = (begun c.args.most c.args.text.now (false-eqb _ _ c.if-is_empty.ensures), omega arith)
-
-pub returns-in_err-n : goal.returns-in_err-n
-returns-in_err-n c =
-    let s = stopped c.args.most c.loop-byte.n c.loop-byte.byte-index c.args.text.now (omega arith) (sym c.with_digit.ensures ∙ c.in_err-n.was) in
-    let e : c.from_residual.result ≡ None = c.from_residual.ensures in
-    record { value = e ∙ (sym s ∙ c.loop-byte.invariant.0); within = rw e tt }
-
-pub loop-byte-preserved : goal.loop-byte-preserved
-loop-byte-preserved c =
-    let s = went_on c.args.most c.loop-byte.n c.loop-byte.byte-index c.in_ok-n.n c.args.text.now (omega arith) (sym c.with_digit.ensures ∙ c.in_ok-n.was) in
-    (sym s.0 ∙ c.loop-byte.invariant.0, s.1)
-
 pub returns : goal.returns
 returns c =
-    record {
-      value = sym (ended c.args.most c.loop-byte.n c.loop-byte.byte-index c.args.text.now (omega arith) c.loop-byte.invariant.1) ∙ c.loop-byte.invariant.0;
-      within = c.loop-byte.invariant.1;
-    }
+    let most : ℕ = c.args.most in
+    let read : c.try_fold.result ≡ up_to most (number_from 0 c.iter.result.rest.now) =
+    answer_from_try_fold _ _ _ (λ n b. cond (digit b) (up_to most (Some (next n b))) None) (λ n bs. up_to most (number_from n bs)) (λ n. n ≤ most)
+    (λ n x o q k. search rules) (ended most) (out most) (on most) c.iter.result c.try_fold.new.self 0 c.try_fold.result c.try_fold.ensures.ran (omega arith) in
+    let value : c.try_fold.result ≡ number_up_to most c.args.text.now =
+    read ∙ (ap (λ bs. up_to most (number_from 0 bs)) c.iter.ensures.rest ∙ begun most c.args.text.now (false-eqb _ _ c.if-is_empty.ensures)) in
+    record { value = value; within = subst (λ o. IfSome o (λ n. n ≤ most)) (sym value) (within most _) }

@@ -1,23 +1,24 @@
+use Rattle.std.proofs.Common.{pos, ◌*ℤ◌, ap, ◌∙◌, w64}
+use Rattle.std.proofs.lemmas.Int.{to_z-of_z}
 use Rattle.books.specs.Ledgers.{accounts_of}
-use Rattle.books.proofs.Booked.{known_mid, small_lots, small_gain, small_position, small_money, after_is, after_agrees, after_balanced}
+use Rattle.books.proofs.Booking.{Allowed, booked_balanced, keeps_agreement}
+use Rattle.books.proofs.Booked.{seller_small, both_sides}
 use Rattle.books.proofs.ledger.Ledger.book.Goals as goal
 
 pub enter_at-requires-2 : goal.enter_at-requires-2
 enter_at-requires-2 c =
-    record {
-      sound = c.enter_at.ensures.sound;
-      known = known_mid c.args.trade.now c.args.buyer c.args.seller c.args.difference (accounts_of c.args.self.now) c.requires.accounts.0 c.requires.accounts.1 c.requires.sound.wide c.requires.contract c.requires.small.0 c.requires.small.1 c.requires.room.1 c.from-lots.result c.gain_of-gain.result c.from-lots.ensures c.gain_of-gain.ensures.value c.opposite-given.result.0 c.opposite-given.result.1 c.opposite-given.ensures.0 c.opposite-given.ensures.1 (accounts_of c.enter_at.new.self) c.enter_at.ensures.entered;
-      contract = c.requires.contract;
-      small = (small_lots c.args.trade.now c.args.buyer c.args.seller c.args.difference (accounts_of c.args.self.now) c.requires.accounts.0 c.requires.accounts.1 c.requires.sound.wide c.requires.contract c.requires.small.0 c.requires.small.1 c.requires.room.1 c.from-lots.result c.gain_of-gain.result c.from-lots.ensures c.gain_of-gain.ensures.value c.opposite-given.result.0 c.opposite-given.result.1 c.opposite-given.ensures.0 c.opposite-given.ensures.1 (accounts_of c.enter_at.new.self) c.enter_at.ensures.entered, small_gain c.args.trade.now c.args.buyer c.args.seller c.args.difference (accounts_of c.args.self.now) c.requires.accounts.0 c.requires.accounts.1 c.requires.sound.wide c.requires.contract c.requires.small.0 c.requires.small.1 c.requires.room.1 c.from-lots.result c.gain_of-gain.result c.from-lots.ensures c.gain_of-gain.ensures.value c.opposite-given.result.0 c.opposite-given.result.1 c.opposite-given.ensures.0 c.opposite-given.ensures.1 (accounts_of c.enter_at.new.self) c.enter_at.ensures.entered);
-      lots = small_position c.args.trade.now c.args.buyer c.args.seller c.args.difference (accounts_of c.args.self.now) c.requires.accounts.0 c.requires.accounts.1 c.requires.sound.wide c.requires.contract c.requires.small.0 c.requires.small.1 c.requires.room.1 c.from-lots.result c.gain_of-gain.result c.from-lots.ensures c.gain_of-gain.ensures.value c.opposite-given.result.0 c.opposite-given.result.1 c.opposite-given.ensures.0 c.opposite-given.ensures.1 (accounts_of c.enter_at.new.self) c.enter_at.ensures.entered;
-      money = small_money c.args.trade.now c.args.buyer c.args.seller c.args.difference (accounts_of c.args.self.now) c.requires.accounts.0 c.requires.accounts.1 c.requires.sound.wide c.requires.contract c.requires.small.0 c.requires.small.1 c.requires.room.1 c.from-lots.result c.gain_of-gain.result c.from-lots.ensures c.gain_of-gain.ensures.value c.opposite-given.result.0 c.opposite-given.result.1 c.opposite-given.ensures.0 c.opposite-given.ensures.1 (accounts_of c.enter_at.new.self) c.enter_at.ensures.entered;
-    }
+    let allowed : Allowed c.args.trade.now c.args.buyer c.args.seller c.args.difference (accounts_of c.args.self.now) =
+    record { known = c.requires.accounts; contract = c.requires.contract; small = c.requires.small; room = c.requires.room } in
+    let bought = c.buying-bought.ensures in
+    let gain = bought.gain ∙ ap (λ z. pos c.args.trade.now.quantity *ℤ z) (to_z-of_z w64 c.args.difference c.ranges.difference) in
+    seller_small allowed bought.contract bought.lots gain c.enter_at.ensures c.opposite.ensures.contract
 
 pub returns : goal.returns
 returns c =
-    record {
-      sound = c.enter_at-2.ensures.sound;
-      booked = after_is c.args.trade.now c.args.buyer c.args.seller c.args.difference (accounts_of c.args.self.now) c.requires.accounts.0 c.requires.accounts.1 c.requires.sound.wide c.requires.contract c.requires.small.0 c.requires.small.1 c.requires.room.1 c.from-lots.result c.gain_of-gain.result c.from-lots.ensures c.gain_of-gain.ensures.value c.opposite-given.result.0 c.opposite-given.result.1 c.opposite-given.ensures.0 c.opposite-given.ensures.1 (accounts_of c.enter_at.new.self) c.enter_at.ensures.entered (accounts_of c.enter_at-2.new.self) c.enter_at-2.ensures.entered;
-      agrees = after_agrees c.args.trade.now c.args.buyer c.args.seller c.args.difference (accounts_of c.args.self.now) c.requires.accounts.0 c.requires.accounts.1 c.requires.sound.wide c.requires.contract c.requires.small.0 c.requires.small.1 c.requires.room.1 c.from-lots.result c.gain_of-gain.result c.from-lots.ensures c.gain_of-gain.ensures.value c.opposite-given.result.0 c.opposite-given.result.1 c.opposite-given.ensures.0 c.opposite-given.ensures.1 (accounts_of c.enter_at.new.self) c.enter_at.ensures.entered (accounts_of c.enter_at-2.new.self) c.enter_at-2.ensures.entered;
-      balanced = after_balanced c.args.trade.now c.args.buyer c.args.seller c.args.difference (accounts_of c.args.self.now) c.requires.accounts.0 c.requires.accounts.1 c.requires.sound.wide c.requires.contract c.requires.small.0 c.requires.small.1 c.requires.room.1 c.from-lots.result c.gain_of-gain.result c.from-lots.ensures c.gain_of-gain.ensures.value c.opposite-given.result.0 c.opposite-given.result.1 c.opposite-given.ensures.0 c.opposite-given.ensures.1 (accounts_of c.enter_at.new.self) c.enter_at.ensures.entered (accounts_of c.enter_at-2.new.self) c.enter_at-2.ensures.entered;
-    }
+    let allowed : Allowed c.args.trade.now c.args.buyer c.args.seller c.args.difference (accounts_of c.args.self.now) =
+    record { known = c.requires.accounts; contract = c.requires.contract; small = c.requires.small; room = c.requires.room } in
+    let bought = c.buying-bought.ensures in
+    let sold = c.opposite.ensures in
+    let gain = bought.gain ∙ ap (λ z. pos c.args.trade.now.quantity *ℤ z) (to_z-of_z w64 c.args.difference c.ranges.difference) in
+    let is = both_sides allowed bought.contract bought.lots gain c.enter_at.ensures sold.contract sold.lots sold.gain c.enter_at-2.ensures in
+    record { booked = is; agrees = rw is (keeps_agreement allowed); balanced = λ h. rw is (booked_balanced allowed h) }
