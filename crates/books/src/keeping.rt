@@ -97,7 +97,8 @@ impl Ledger {
         self.enter_at(seller, bought.opposite());
     }
 
-    // Gives every account the change of a contract's settlement value on its position.
+    // Gives every account the change of a contract's settlement value on its position. Contract and change are handed on as they
+    // are: a struct of both would be made for each call and carry no more.
     pub fn revalue(&mut self, contract: usize, change: i64)
         requires change { unsigned_abs change ≤ 2000000000 }
         requires small { All (λ a. Small a contract) (accounts_of self.old) }

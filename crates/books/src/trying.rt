@@ -21,13 +21,15 @@ const MOST_DIFFERENCE: u64 = 3_000_000_000;
 // The greatest change of a settlement price's value.
 const MOST_CHANGE: u64 = 2_000_000_000;
 
-// Whether a number is at most so far from nought, on either side.
+// Whether a number is at most so far from nought, on either side. Prices have a test of their own, of 32 bits: one over both
+// would have to be generic over numbers.
 fn is_within(most: u64, n: i64) -> bool
     ensures { result ≡ within most n }
 {
     n.unsigned_abs() <= most
 }
 
+// Not the test of a keyed field, which is of 32 bits.
 fn is_contract(contract: usize) -> bool
     ensures { result ≡ between 1 32 contract }
 {
