@@ -11,9 +11,9 @@ use desk::printout::Printout;
 fn run(rt: &HostRuntime) -> anyhow::Result<()> {
     let sheet = read_sheet(rt)?;
     let mut printed = Printout::new(rt.alloc());
-    hold_day(sheet.as_slice(), &mut printed)?;
+    let all_read = hold_day(sheet.as_slice(), &mut printed)?;
     rt.print(printed.text.as_str())?;
-    ensure!(printed.all_read, "a line is unreadable");
+    ensure!(all_read, "a line is unreadable");
     Ok(())
 }
 

@@ -13,6 +13,7 @@ use rulebook::lots::LotsCentre;
 use rulebook::pledge::PledgeCentre;
 use sheet::lines::next_line;
 use std::alloc::AllocError;
+use std::mem;
 
 // What is left of a sheet, and the number of its first line.
 #[derive(Clone, Copy)]
@@ -114,10 +115,24 @@ fn trade_on(ready: &Ready, printed: &mut Printout) -> anyhow::Result<()>
     Ok(())
 }
 
-// Carries out a whole sheet, and adds what each of its lines prints.
-pub fn hold_day(text: &[u8], printed: &mut Printout) -> anyhow::Result<()>
+// Carries out a whole sheet on a printout, and adds what each of its lines prints.
+fn hold(text: &[u8], printed: &mut Printout) -> anyhow::Result<()>
     ensures { OnOk result (shown printed.new ≡ followed_by (shown printed.old) (sheet_printed text.now)) }
 {
     let ready = set_up(text, printed)?;
     trade_on(&ready, printed)
+}
+
+// Carries out a whole sheet, and adds what each of its lines prints; whether all lines of this sheet could be read, whatever
+// was printed before it.
+pub fn hold_day(text: &[u8], printed: &mut Printout) -> anyhow::Result<bool>
+    ensures printed { OnOk result (shown printed.new ≡ followed_by (shown printed.old) (sheet_printed text.now)) }
+    ensures read { IfOk result (λ read. read ≡ (sheet_printed text.now).all_read) }
+{
+    let before = mem::replace(&mut printed.all_read, true);
+    let held = hold(text, printed);
+    let read = printed.all_read;
+    printed.all_read = before && read;
+    held?;
+    Ok(read)
 }

@@ -31,9 +31,9 @@ impl fmt::Display for Reply {
     }
 }
 
-// The reply to a call or a question, or why it was turned away.
-#[derive(Clone, Copy)]
-struct AnswerText(Result<Reply, Refusal>);
+// The reply to a call or a question, or why it was turned away, as it is printed.
+#[derive(Clone, Copy, Debug, PartialEq, Eq)]
+pub struct AnswerText(pub Result<Reply, Refusal>);
 
 impl fmt::Display for AnswerText {
     ghost output = { λ a. Some (answer_text a.0) };
