@@ -1,5 +1,5 @@
 -- The value of a price is bounded.
-use Rattle.std.proofs.Common.{◌≡◌, ◌+◌, ◌*◌, ◌<◌, ◌≤◌, true, ◌&&◌, leb, ℤ, pos, ◌-ℤ◌, ◌*ℤ◌, nat_abs, mul_comm, mul-le-mul, arith, w32, w64, FitsSigned, to_z, of_z}
+use Rattle.std.proofs.Common.{◌≡◌, ◌+◌, ◌*◌, ◌<◌, ◌≤◌, true, ◌&&◌, leb, ℤ, pos, ◌-ℤ◌, ◌*ℤ◌, nat_abs, refl, mul_comm, mul-le-mul, arith, w32, w64, FitsSigned, to_z, of_z}
 use Rattle.std.specs.Prelude.{int_div}
 use Rattle.std.proofs.lemmas.Int.{ints, to_z-of_z, unsigned_abs-mul, fits_signed_from_abs}
 use Rattle.std.proofs.lemmas.Bool.{and_parts, leb-true}
@@ -32,7 +32,7 @@ module _ (c : Contract) where
       let k = mul_comm (nat_abs price) 1000 in
       omega arith)
 
--- the quotient that the code makes
+-- the product and the quotient that the code makes
 module _ (c : Contract) (price : ℤ) (passed : FitsSigned w32 price) where
   small : nat_abs price ≤ 2147483648
   small = omega (arith, ints)
@@ -40,18 +40,25 @@ module _ (c : Contract) (price : ℤ) (passed : FitsSigned w32 price) where
   pub value_fits : FitsSigned w64 (value_at c price)
   value_fits = fits_signed_from_abs w64 (value_at c price) (omega (arith, value_bounded c price, small))
 
-  module _ {p w r : ℤ} (ep : p ≡ price) (ew : w ≡ pos c.terms.w) (er : r ≡ pos c.terms.r) where
-    product_fits : FitsSigned w64 (price *ℤ pos c.terms.w)
-    product_fits =
-        fits_signed_from_abs w64 (price *ℤ pos c.terms.w)
-        (omega (arith, mul_within price (pos c.terms.w) 2147483648 1000 small (factor_small c)))
+  module _ {p w : ℤ} (ep : p ≡ price) (ew : w ≡ pos c.terms.w) where
+    product_within : nat_abs (price *ℤ pos c.terms.w) ≤ 2147483648000
+    product_within = omega (arith, mul_within price (pos c.terms.w) 2147483648 1000 small (factor_small c))
 
-    pub quotient : int_div (to_z w64 (of_z w64 (p *ℤ w))) r ≡ value_at c price
-    quotient = rw (ep, ew, er, to_z-of_z w64 (price *ℤ pos c.terms.w) product_fits)
+    product : to_z w64 (of_z w64 (p *ℤ w)) ≡ price *ℤ pos c.terms.w
+    product = rw (ep, ew) (to_z-of_z w64 (price *ℤ pos c.terms.w) (fits_signed_from_abs w64 (price *ℤ pos c.terms.w) (omega (arith, product_within))))
+
+    pub product_small : nat_abs (to_z w64 (of_z w64 (p *ℤ w))) ≤ 2147483648000
+    product_small = rw product product_within
+
+    pub quotient : int_div (to_z w64 (of_z w64 (p *ℤ w))) (pos c.terms.r) ≡ value_at c price
+    quotient = rw product refl
 
   -- a value as it is told for a price that is passed
   pub told : {z : ℤ} → z ≡ value_at c (to_z w32 (of_z w32 price)) → to_z w64 (of_z w64 z) ≡ value_at c price
   told e = rw (e, to_z-of_z w32 price passed, to_z-of_z w64 (value_at c price) value_fits)
+
+  pub told_small : nat_abs (value_at c price) ≤ 2147483648000
+  told_small = omega (arith, value_bounded c price, small)
 
 -- and the difference of two
 module _ (c : Contract) (to from : ℤ) where

@@ -11,6 +11,20 @@ use records::instrument::Instrument;
 
 // The two questions have a function each: a struct of the three borrows would be made anew for every one that is asked.
 
+// The price that the rule tells, before it is seen to fit a trade's price.
+fn told_price<R: InstrumentRule>(
+    rule: &R,
+    instrument: &Instrument,
+    leg: LegPlace,
+    price: i32,
+    contracts: &[Contract],
+) -> i64
+    ensures { result ≡ price_now (R.InstrumentRule.meaning rule.now) instrument.now leg price contracts.now }
+{
+    let terms = leg_terms(contracts, &rule.legs(instrument));
+    rule.leg_price(instrument, leg, price, &terms)
+}
+
 // The price at which a leg trades among the listed contracts. It fits a trade's price for every rule, by the law on leg
 // prices.
 pub fn trade_price<R: InstrumentRule>(
@@ -25,8 +39,7 @@ pub fn trade_price<R: InstrumentRule>(
     ensures value { result ≡ price_now (R.InstrumentRule.meaning rule.now) instrument.now leg price contracts.now }
     ensures bound { within 2000000 result ≡ true }
 {
-    let terms = leg_terms(contracts, &rule.legs(instrument));
-    rule.leg_price(instrument, leg, price, &terms) as i32
+    told_price(rule, instrument, leg, price, contracts) as i32
 }
 
 // The price bounds among the listed contracts. They are in range for every rule, by the law on bounds.
