@@ -5,7 +5,11 @@ ghost use Rattle.records.specs.Registers.{numbered};
 pub(crate) fn place_of(number: usize, count: usize) -> Option<usize>
     ensures { MatchOption result ((at : ℕ) → at + 1 ≡ number → at < count → ⊥) (λ at. (at + 1 ≡ number) × (at < count)) }
 {
-    number.checked_sub(1).filter(|at| *at < count)
+    if (1..=count).contains(&number) {
+        Some(number - 1)
+    } else {
+        None
+    }
 }
 
 // The number of the record at this place.
@@ -20,6 +24,9 @@ pub(crate) fn number_of(at: usize) -> usize
 pub fn record_of<T: Copy>(records: &[T], number: usize) -> Option<T>
     ensures { result ≡ numbered records.now number }
 {
-    let at = number.checked_sub(1)?;
-    records.get(at).copied()
+    if (1..=records.len()).contains(&number) {
+        records.get(number - 1).copied()
+    } else {
+        None
+    }
 }

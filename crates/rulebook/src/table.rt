@@ -13,7 +13,8 @@ pub(crate) struct Table<const N: usize, const LOW: u64, const HIGH: u64> {
 }
 
 impl<const N: usize, const LOW: u64, const HIGH: u64> Table<N, LOW, HIGH> {
-    // The table of these entries, or the number of the first that is out of range.
+    // The table of these entries, or the number of the first that is out of range. Inlined, so that the entries are moved less.
+    #[inline(always)]
     pub(crate) fn new(entries: [Option<u64>; N]) -> Result<Table<N, LOW, HIGH>, usize>
         ensures { MatchResult result (λ t. t.entries ≡ entries.entry) (λ n. Outside LOW HIGH entries.entry n) }
     {

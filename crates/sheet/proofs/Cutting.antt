@@ -12,7 +12,7 @@ abbrev pub ink : ℕ → Bool
 ink b = not (blank b)
 
 -- blanks in front make no word
-skip : (bs : List ℕ) → words (from_first ink bs) ≡ words bs
+pub skip : (bs : List ℕ) → words (from_first ink bs) ≡ words bs
 unfolding words_from
 skip [] = refl
 skip (b ∷ bs) = go (blank b) refl (skip bs)

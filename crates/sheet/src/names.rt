@@ -5,7 +5,7 @@ ghost use Rattle.sheet.specs.Words.{words};
 
 use crate::key::Key;
 use crate::name::Name;
-use crate::words::Words;
+use crate::words::{Words, from_first_word};
 
 // Every name.
 const ALL_NAMES: [Name; 17] = [
@@ -119,5 +119,5 @@ fn name_among<'l>(names: &[Name], line: &'l [u8]) -> Option<(Name, &'l [u8])>
 pub fn name_of(line: &[u8]) -> Option<(Name, &[u8])>
     ensures { option_map (λ p. (p.0, words p.1.now)) result ≡ name_among all_names (words line.now) }
 {
-    name_among(&ALL_NAMES, line)
+    name_among(&ALL_NAMES, from_first_word(line))
 }

@@ -22,6 +22,14 @@ impl<'l> Iterator for Words<'l> {
     }
 }
 
+// A line from its first word on, so that what goes over it more than once goes over the blanks in front only here.
+pub(crate) fn from_first_word(line: &[u8]) -> &[u8]
+    ensures { words result.now ≡ words line.now }
+{
+    let (_, inked) = cut(line, |byte| !is_blank(byte));
+    inked
+}
+
 // The first word of a line, and what stands behind it.
 pub fn first_word(line: &[u8]) -> Option<(&[u8], &[u8])>
     ensures value { MatchOption result (words line.now ≡ []) (λ p. words line.now ≡ p.0.now ∷ words p.1.now) }
