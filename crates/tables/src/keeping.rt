@@ -16,7 +16,9 @@ fn change_all<T: Copy, F: Fn(T) -> T>(records: &mut [T], rule: F)
 }
 
 impl<T: Copy, const N: usize> Table<T, N> {
-    // No record yet; the places hold what is vacant.
+    // No record yet; the places hold what is vacant. Not inlined, since the compiler would take a large table apart and copy it record
+    // by record.
+    #[inline(never)]
     pub fn new(vacant: T) -> Table<T, N>
         ensures { entered result ≡ [] }
     {
