@@ -4,12 +4,8 @@ use Rattle.std.proofs.lemmas.List.{length-drop, get_or-drop}
 use Rattle.std.proofs.lemmas.List.Sums.{prefix_len_stops}
 use Rattle.std.proofs.Math.Bool.{not-not}
 use Rattle.std.specs.List.{position_or_len, before_first}
-use Rattle.sheet.specs.Bytes.{blank, from_first}
+use Rattle.sheet.specs.Bytes.{blank, ink, from_first}
 use Rattle.sheet.specs.Words.{words_from, words}
-
--- no blank
-abbrev pub ink : ℕ → Bool
-ink b = not (blank b)
 
 -- blanks in front make no word
 pub skip : (bs : List ℕ) → words (from_first ink bs) ≡ words bs

@@ -1,11 +1,15 @@
 -- Bytes, and where a text is cut.
-use Rattle.std.specs.Prelude.{◌≡◌, ℕ, Bool, ◌||◌, List, drop, ◌==◌}
+use Rattle.std.specs.Prelude.{◌≡◌, ℕ, Bool, not, ◌||◌, List, drop, ◌==◌}
 use Rattle.std.specs.Fn.{Shared}
 use Rattle.std.specs.List.{position_or_len}
 
 -- a space or a tab
 abbrev pub blank : ℕ → Bool
 blank b = b == 32 || b == 9
+
+-- no blank
+abbrev pub ink : ℕ → Bool
+ink b = not (blank b)
 
 abbrev pub equals_sign : ℕ → Bool
 equals_sign b = b == 61

@@ -1,5 +1,6 @@
 ghost use Rattle.std.specs.Prelude.{◌≡◌, ◌<◌, [], ◌∷◌, length, IfSome, MatchOption};
 ghost use Rattle.std.specs.Iterator.{YieldsFirstRef, item_count};
+ghost use Rattle.sheet.specs.Bytes.{ink, from_first};
 ghost use Rattle.sheet.specs.Words.{words};
 
 use crate::bytes::{cut, is_blank};
@@ -24,10 +25,10 @@ impl<'l> Iterator for Words<'l> {
 
 // A line from its first word on, so that what goes over it more than once goes over the blanks in front only here.
 pub(crate) fn from_first_word(line: &[u8]) -> &[u8]
-    ensures { words result.now ≡ words line.now }
+    ensures text { result.now ≡ from_first ink line.now }
+    ensures same { words result.now ≡ words line.now }
 {
-    let (_, inked) = cut(line, |byte| !is_blank(byte));
-    inked
+    cut(line, |byte| !is_blank(byte)).1
 }
 
 // The first word of a line, and what stands behind it.
@@ -35,7 +36,7 @@ pub fn first_word(line: &[u8]) -> Option<(&[u8], &[u8])>
     ensures value { MatchOption result (words line.now ≡ []) (λ p. words line.now ≡ p.0.now ∷ words p.1.now) }
     ensures shorter { IfSome result (λ p. length p.1.now < length line.now) }
 {
-    let (_, inked) = cut(line, |byte| !is_blank(byte));
+    let inked = from_first_word(line);
     if inked.is_empty() {
         return None;
     }
